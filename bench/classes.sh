@@ -10,7 +10,7 @@
 
 # The class texts of so many parts as one: the records and functions first, and `main` of the first part alone.
 joined() {
-    echo "classes 1"
+    echo "classes 2"
     for part in $(seq 0 $(($1 - 1))); do
         sed -n '2,/^class /p' "$work/$part.classes" | sed '$d'
     done

@@ -8,7 +8,8 @@ use Rattle.flow_tree.specs.declared.token.Spot.{Spot}
 use Rattle.flow_tree.specs.Lexing.{Lexes}
 use Rattle.flow_tree.specs.GrammarToken.{DerivesOf}
 use Rattle.flow_class.specs.Classes.{ClassTree, RawTree}
-use Rattle.flow_classprint.specs.ClassGrammar.{TextRule, IsWritten}
+use Rattle.flow_classprint.specs.declared.version.Version.TheVariants.{Two}
+use Rattle.flow_classprint.specs.ClassGrammar.{VersionRule, IsWritten}
 use Rattle.flow_classprint.specs.ClassText.{ClassText}
 use Rattle.flow_meaning.specs.Placeless.{placeless_class, placeless_classes}
 use Rattle.flow_valid.specs.Validity.{IsSoundClass, IsValid, Breaks}
@@ -42,14 +43,14 @@ HeadsAside =
     (a b : RawTree) (k : ℕ) (c : ClassTree) → placeless_classes a ≡ placeless_classes b → slice_get a.classes k ≡ Some c
     → (d : ClassTree) × (slice_get b.classes k ≡ Some d) × SameHead c d
 
--- The canonical text of classes has tokens, which are derived as classes equal to them, places aside, within the limits of class
--- text. The limit on bytes is no part of this.
+-- The canonical text of classes has tokens, which are derived in version 2 as classes equal to them, places aside, within the limits
+-- of class text. The limit on bytes is no part of this.
 pub record AreReadBack (raw : RawTree) : Type 0 where
   pub spots : List Spot
   pub end : Place
   pub tree : RawTree
   pub lexes : Lexes (ClassText raw) spots end
-  pub derives : DerivesOf OF_CLASS_TEXT (TextRule 1) 7 spots tree
+  pub derives : DerivesOf OF_CLASS_TEXT (VersionRule Two) 7 spots tree
   pub same : placeless_classes tree ≡ placeless_classes raw
 
 -- So are the records, functions and classes that some class text derives.

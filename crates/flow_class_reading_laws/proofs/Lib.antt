@@ -1,4 +1,5 @@
 pub mod Once
+pub mod Versions
 pub mod Written
 pub mod Whole
 pub mod ReadBack

@@ -126,7 +126,7 @@ text_begins t k raw h d = elim (last k (length t.spots.items) h) [
     read = take (suc k) d.marked;
     rest = drop (suc k) d.marked;
     tree = raw;
-    rule = subst (λ z. TextRule 1 z raw) (sym (take-append-drop (suc k) d.marked)) d.rule;
+    rule = subst (λ z. TextRule z raw) (sym (take-append-drop (suc k) d.marked)) d.rule;
     is = spots_take (suc k) d.marked ∙ ap (take (suc k)) d.is;
     keeps = first_marked 7 (suc k) d.marked d.keeps;
   })
@@ -150,7 +150,7 @@ no_failure bytes line raw spots end l d (form t short m f) =
 
 -- tokens and their end alone count
 begins_there : (t u : Tokens) → u.spots.items ≡ t.spots.items → (k : ℕ) → BeginsText u k → BeginsText t k
-begins_there t u e k (begun lt g) = begun (subst (λ s. k < length s) e lt) (subst (λ s. GoodOf OF_CLASS_TEXT (TextRule 1) 7 (take (suc k) s)) e g)
+begins_there t u e k (begun lt g) = begun (subst (λ s. k < length s) e lt) (subst (λ s. GoodOf OF_CLASS_TEXT TextRule 7 (take (suc k) s)) e g)
 begins_there t u e k (whole raw d) = subst (BeginsText t) (ap length (sym e)) (whole raw (subst (λ s. DerivesClasses s raw) e d))
 
 place_there : (t u : Tokens) → t.spots.items ≡ u.spots.items → t.end ≡ u.end → (k : ℕ) → place_at t k ≡ place_at u k

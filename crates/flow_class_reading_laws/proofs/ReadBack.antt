@@ -3,6 +3,8 @@ use Rattle.std.proofs.Common.{◌≡◌, ℕ, ◌≤◌, length, Result, Ok, Err
 use Rattle.flow_class.specs.declared.class.RawClasses.{RawClasses}
 use Rattle.flow_class.specs.Classes.{RawTree}
 use Rattle.flow_class.specs.View.{raw_of}
+use Rattle.flow_classprint.specs.declared.version.Version.TheVariants.{Two}
+use Rattle.flow_classprint.specs.ClassGrammar.{of_version}
 use Rattle.flow_classprint.specs.ClassText.{ClassText}
 use Rattle.flow_valid.specs.Validity.{IsValid}
 use Rattle.flow_meaning.specs.Placeless.{placeless_classes}
@@ -22,18 +24,21 @@ use Rattle.flow_class_reading_laws.proofs.Written.{reads_written}
 use Rattle.flow_class_reading_laws.proofs.Once.{same_spots, no_failure, valid_unbroken}
 
 module _ (raw : RawTree) (b : AreReadBack raw) where
+  derived : DerivesClasses b.spots b.tree
+  derived = record { marked = b.derives.marked; rule = of_version Two b.derives.rule; is = b.derives.is; keeps = b.derives.keeps }
+
   -- what the canonical text derives is what was written, places aside
   read_as : (other : RawTree) → IsClassText (ClassText raw) other → placeless_classes other ≡ placeless_classes raw
   read_as other t =
       let e = same_spots (ClassText raw) b.spots t.spots b.end t.end b.lexes t.lexes in
-      ap placeless_classes (sym (t.only b.tree (subst (λ s. DerivesClasses s b.tree) e b.derives))) ∙ b.same
+      ap placeless_classes (sym (t.only b.tree (subst (λ s. DerivesClasses s b.tree) e derived))) ∙ b.same
 
   unbroken : (rule : ℕ) (at : _) → IsValid raw → BreaksFirst (ClassText raw) rule at → ⊥
   unbroken rule at v f = valid_unbroken raw rule f.number v (breach_over f.raw raw rule f.number (read_as f.raw f.text) f.breaks)
 
   reads_back : (answer : Result RawClasses ClassFault) → IsValid raw → length (ClassText raw) ≤ CLASS_BYTES → ClassAnswer (ClassText raw) answer → IsReadAs raw answer
   reads_back (Ok c) v short a = read_as (raw_of c) a.0
-  reads_back (Err (Form line)) v short a = absurd (no_failure (ClassText raw) line b.tree b.spots b.end b.lexes b.derives a)
+  reads_back (Err (Form line)) v short a = absurd (no_failure (ClassText raw) line b.tree b.spots b.end b.lexes derived a)
   reads_back (Err (Invalid rule at)) v short a = absurd (unbroken rule at v a)
   reads_back (Err TooLarge) v short a = absurd (omega (arith, short, a))
   reads_back (Err OutOfMemory) v short a = tt

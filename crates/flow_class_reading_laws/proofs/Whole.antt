@@ -6,17 +6,19 @@ use Rattle.std.specs.declared.option.Option.TheVariants.{Some}
 use Rattle.flow_tree.specs.declared.ty.Ident.{Ident}
 use Rattle.flow_tree.specs.Tree.{ExprTree}
 use Rattle.flow_tree.specs.Body.{Body, ForStmt, AssignStmt, ModifyStmt, CallStmt}
-use Rattle.flow_tree.specs.Decls.{RecordTree, RoutineTree, FunctionDecl}
+use Rattle.flow_tree.specs.Decls.{RecordTree, RoutineTree}
 use Rattle.flow_tree.specs.Folds.{EachStmt}
 use Rattle.flow_tree.specs.Formed.{IsPath, IsFormed}
 use Rattle.flow_tree.specs.GrammarToken.{Marked}
-use Rattle.flow_tree.specs.GrammarDecl.{routine, DeclRule, function_decl}
+use Rattle.flow_tree.specs.declared.decl.RoutineKind.{RoutineKind}
+use Rattle.flow_tree.specs.GrammarDecl.{routine, FunctionRule, function}
 use Rattle.flow_tree.proofs.Folds.{each_follows}
 use Rattle.flow_tree.proofs.Formed.{stmts_formed}
 use Rattle.flow_class.specs.Classes.{InstrTree, LastTree, BlockTree, CallbackTree, ClassTree, RawTree}
 use Rattle.flow_class.specs.Code as code
 use Rattle.flow_class.specs.Code.{Last, Nothing, fetch_in, fetch_at, fetch}
-use Rattle.flow_classprint.specs.ClassGrammar.{VarPathRule, var_path, CalleeRule, callee, method, AssignRule, assign, InstrRule, set, effect, new, act, drop, InstrsRule, no_instrs, more_instrs, BlockRule, block, NumberedRule, none, next, GroupsRule, no_groups, more_groups, ClassRule, class, ClassesRule, no_classes, more_classes, FunctionRule, function_rule, HeadsRule, no_heads, more_records, more_functions, TextRule, text}
+use Rattle.flow_classprint.specs.declared.version.Version.{Version}
+use Rattle.flow_classprint.specs.ClassGrammar.{VarPathRule, var_path, CalleeRule, callee, method, AssignRule, assign, InstrRule, set, effect, new, act, drop, InstrsRule, no_instrs, more_instrs, BlockRule, block, NumberedRule, none, next, GroupsRule, no_groups, more_groups, ClassRule, class, ClassesRule, no_classes, more_classes, HeadFunctionRule, function_rule, HeadsRule, no_heads, more_records, more_functions, TextRule, of_version, text}
 use Rattle.flow_typing_laws.specs.ControlFlow.Laws.{IsSimpleFor}
 use Rattle.flow_typing_laws.specs.Typing.Paths.{IsNamed}
 use Rattle.flow_progress.specs.Written.{HasPath, HasBody, FunctionsWritten}
@@ -53,10 +55,11 @@ instrs_named w [] last no_instrs (suc n) i e = absurd cc
 instrs_named w (j ∷ is) last (more_instrs first rest r more q) zero i e = subst HasPath (body_of e) (instr_named r)
 instrs_named w (j ∷ is) last (more_instrs first rest r more q) (suc n) i e = instrs_named rest is last more n i e
 
-block_named : (k : ℕ) (w : List Marked) (b : BlockTree) → BlockRule k w b → (n : ℕ) (i : InstrTree) → fetch_in b.body b.last n ≡ code.Body i → HasPath i
+block_named : {v : Version} (k : ℕ) (w : List Marked) (b : BlockTree) → BlockRule v k w b → (n : ℕ) (i : InstrTree) → fetch_in b.body b.last n ≡ code.Body i → HasPath i
 block_named k w b (block {is = is} {l = l} p q r s caught body last m c d f e) n i h = instrs_named body is l d n i h
 
-blocks_named : (k : ℕ) (w : List Marked) (bs : List BlockTree) → NumberedRule BlockRule k w bs → (b n : ℕ) (i : InstrTree) → fetch_at (slice_get bs b) n ≡ code.Body i → HasPath i
+blocks_named : {v : Version} (k : ℕ) (w : List Marked) (bs : List BlockTree) → NumberedRule (BlockRule v) k w bs → (b n : ℕ) (i : InstrTree) → fetch_at (slice_get bs b) n ≡ code.Body i
+    → HasPath i
 blocks_named k w [] none b n i h = absurd cc
 blocks_named k w (c ∷ bs) (next first rest r more e) zero n i h = block_named k first c r n i h
 blocks_named k w (c ∷ bs) (next first rest r more e) (suc b) n i h = blocks_named (suc k) rest bs more b n i h
@@ -77,14 +80,14 @@ record IsFromText (c : ClassTree) : Type 0 where
   named : (b n : ℕ) (i : InstrTree) → fetch c b n ≡ code.Body i → HasPath i
   groups : AllByRecursion HasCallback c.groups
 
-class_from : (w : List Marked) (c : ClassTree) → ClassRule w c → IsFromText c
+class_from : {v : Version} (w : List Marked) (c : ClassTree) → ClassRule v w c → IsFromText c
 class_from w c (class {b = b} {bs = bs} p q r s u v z of slots locals blocks groups t k a l d f e) = record {
   begun = begins b;
   named = blocks_named 0 blocks (b ∷ bs) d;
   groups = groups_some f;
 }
 
-classes_from : (w : List Marked) (cs : List ClassTree) → ClassesRule w cs → (k : ℕ) (c : ClassTree) → slice_get cs k ≡ Some c → IsFromText c
+classes_from : {v : Version} (w : List Marked) (cs : List ClassTree) → ClassesRule v w cs → (k : ℕ) (c : ClassTree) → slice_get cs k ≡ Some c → IsFromText c
 classes_from w [] no_classes k c h = absurd cc
 classes_from w (d ∷ cs) (more_classes first rest r more e) zero c h = subst IsFromText (same h) (class_from first d r)
   where
@@ -106,13 +109,13 @@ named _ h = tt
 has_body : (f : RoutineTree) → EachStmt IsFormed f.body → HasBody f
 has_body f h = (each_follows IsFormed IsSimpleFor simple_for f.body h, each_follows IsFormed IsNamed named f.body h)
 
-decl_formed : {w : List Marked} {f : RoutineTree} → DeclRule w (FunctionDecl f) → EachStmt IsFormed f.body
-decl_formed (function_decl at of xs t (routine p q r close x params body ps ss e) s z) = stmts_formed ss
+function_formed : {home : RoutineKind} {w : List Marked} {f : RoutineTree} → FunctionRule home w f → EachStmt IsFormed f.body
+function_formed (function at of xs t (routine p q r close x params body ps ss e) s z) = stmts_formed ss
 
-function_from : {w : List Marked} {f : RoutineTree} → FunctionRule w f → HasBody f
-function_from {f = f} (function_rule of d) = has_body f (decl_formed d)
+function_from : {v : Version} {w : List Marked} {f : RoutineTree} → HeadFunctionRule v w f → HasBody f
+function_from {f = f} (function_rule of d) = has_body f (function_formed d)
 
-functions_from : (w : List Marked) (rs : List RecordTree) (fs : List RoutineTree) → HeadsRule w rs fs → (k : ℕ) (f : RoutineTree) → slice_get fs k ≡ Some f → HasBody f
+functions_from : {v : Version} (w : List Marked) (rs : List RecordTree) (fs : List RoutineTree) → HeadsRule v w rs fs → (k : ℕ) (f : RoutineTree) → slice_get fs k ≡ Some f → HasBody f
 functions_from w [] [] no_heads k f h = absurd cc
 functions_from w (r ∷ rs) fs (more_records first rest a more e) k f h = functions_from rest rs fs more k f h
 functions_from w rs (g ∷ fs) (more_functions first rest a more e) zero f h = subst HasBody (same h) (function_from a)
@@ -126,8 +129,8 @@ record IsAllFrom (raw : RawTree) : Type 0 where
   each : (k : ℕ) (c : ClassTree) → slice_get raw.classes k ≡ Some c → IsFromText c
   functions : FunctionsWritten raw
 
-text_from : (w : List Marked) (raw : RawTree) → TextRule 1 w raw → IsAllFrom raw
-text_from w raw (text p q heads classes h r e) = record { each = classes_from classes raw.classes r; functions = functions_from heads raw.records raw.functions h }
+text_from : (w : List Marked) (raw : RawTree) → TextRule w raw → IsAllFrom raw
+text_from w raw (of_version v (text p q heads classes h r e)) = record { each = classes_from classes raw.classes r; functions = functions_from heads raw.records raw.functions h }
 
 pub reads_whole : ReadsWhole
 reads_whole bytes raw t v =

@@ -33,7 +33,7 @@ OneAnswer =
 abbrev pub ReadsWhole : Type 0
 ReadsWhole = (bytes : List ℕ) (raw : RawTree) → IsClassText bytes raw → IsValid raw → AreWhole raw
 
--- Some class text derives what one does, in tokens that can be spelled.
+-- Some class text of version 2 derives what one of any version does, in tokens that can be spelled.
 abbrev pub ReadsWritten : Type 0
 ReadsWritten = (bytes : List ℕ) (raw : RawTree) → IsClassText bytes raw → IsWritten raw
 

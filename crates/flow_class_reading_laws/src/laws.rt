@@ -8,7 +8,7 @@ pub fn class_texts_have_one_answer()
     ensures { OneAnswer }
 {}
 
-/// Of what a class text derives the laws on runs hold where it is valid, and some class text of its own derives it in tokens that
+/// Of what a class text derives the laws on runs hold where it is valid, and some class text of version 2 derives it in tokens that
 /// can be spelled.
 pub fn read_classes_are_written()
     ensures whole { ReadsWhole }

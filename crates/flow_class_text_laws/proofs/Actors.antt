@@ -7,20 +7,22 @@ use Rattle.std.specs.declared.option.Option.TheVariants.{None, Some}
 use Rattle.flow_base.specs.declared.place.Place.{Place}
 use Rattle.flow_tree.specs.declared.token.Token.TheVariants as token
 use Rattle.flow_tree.specs.declared.token.Word.TheVariants as word
+use Rattle.flow_tree.specs.declared.decl.RoutineKind.{RoutineKind}
 use Rattle.flow_tree.specs.Tree.{TypeTree, ErrorType}
 use Rattle.flow_tree.specs.Body.{IntoTree, WaitTree, Body, DeclareStmt, WaitStmt}
 use Rattle.flow_tree.specs.Decls.{ParamTree, SlotTree, RoutineTree, DeclTree, StructDecl, FunctionDecl, ActorDecl}
 use Rattle.flow_tree.specs.GrammarToken.{Declaration, Node, Variable, Marked, begin}
 use Rattle.flow_tree.specs.Grammar.{error_type}
-use Rattle.flow_tree.specs.GrammarDecl.{ParamRule, param, MoreParamsRule, end_params, more_params, ParamsRule, no_params, some_params, RoutineRule, routine, DeclRule, record_decl, function_decl, actor_decl, DeclsRule, no_decls, more_decls}
+use Rattle.flow_tree.specs.GrammarDecl.{ParamRule, param, MoreParamsRule, end_params, more_params, ParamsRule, no_params, some_params, RoutineRule, routine, actor, void_actor, DeclRule, record_decl, function_decl, actor_decl, DeclsRule, no_decls, more_decls}
 use Rattle.flow_tree.specs.declared.ty.Ident.{Ident}
 use Rattle.flow_tree.specs.Folds.{Fold, folded, listing, no_items}
 use Rattle.flow_tree.proofs.Folds.{folds_agree}
 use Rattle.flow_ast.specs.Slots.{param_slot, declared_slots, into_slots, waited_slots, stmt_slots, body_slots, slots_of}
 use Rattle.flow_layout.specs.Locals.{declared_locals, into_locals, waited_locals, stmt_locals, body_locals}
 use Rattle.flow_meaning.specs.Source.{records_in, functions_in}
-use Rattle.flow_classprint.specs.ClassGrammar.{IsSpelled, RecordRule, record_rule, FunctionRule, function_rule}
-use Rattle.flow_class_text_laws.proofs.Writable.{Derived, TypeWritable, SlotWritable}
+use Rattle.flow_classprint.specs.declared.version.Version.TheVariants.{Two}
+use Rattle.flow_classprint.specs.ClassGrammar.{IsSpelled, result, no_result, HeadRecordRule, record_rule, HeadFunctionRule, function_rule}
+use Rattle.flow_class_text_laws.proofs.Writable.{Derived, TypeWritable, ResultWritable, SlotWritable}
 use Rattle.flow_class_text_laws.proofs.Spelled.{word_spelled}
 use Rattle.flow_class_text_laws.proofs.Written.{p}
 use Rattle.flow_class_text_laws.proofs.Paths.{retyped}
@@ -95,13 +97,13 @@ locals_said b h = listed_said TypeWritable (λ x. ErrorType ∷ []) waited_local
 -- declarations
 pub record ActorSaid (a : RoutineTree) : Type 0 where
   pub name : IsSpelled (token.Name a.name.name)
-  pub returns : TypeWritable a.returns
+  pub returns : ResultWritable a.returns
   pub slots : SlotsSaid (slots_of a)
   pub body : BodySaid a.body
 
 abbrev pub DeclSaid : DeclTree → Type 0
-DeclSaid (StructDecl r) = Derived (λ ts. RecordRule ts r)
-DeclSaid (FunctionDecl f) = Derived (λ ts. FunctionRule ts f)
+DeclSaid (StructDecl r) = Derived (λ ts. HeadRecordRule ts r)
+DeclSaid (FunctionDecl f) = Derived (λ ts. HeadFunctionRule Two ts f)
 DeclSaid (ActorDecl a) = ActorSaid a
 
 one_param : {n : ℕ} {all : List Marked} {q : ParamTree} → ParamRule n all q → Fine all → SlotWritable (param_slot q)
@@ -121,7 +123,11 @@ params_said (some_params first more q qs eq) h =
     let t = subst Fine eq h in
     (one_param q (fine_front first _ t), params_after qs (fine_back first _ t))
 
-actor_said : {actor : Bool} {at : Place} {t : TypeTree} {all : List Marked} {a : RoutineTree} → RoutineRule actor at t all a → Fine all → TypeWritable t → ActorSaid a
+-- a type is a result
+given : {t : TypeTree} → TypeWritable t → ResultWritable t
+given h = record { tokens = h.tokens; rule = result h.rule; are = h.are }
+
+actor_said : {home : RoutineKind} {at : Place} {t : TypeTree} {all : List Marked} {a : RoutineTree} → RoutineRule home at t all a → Fine all → ResultWritable t → ActorSaid a
 actor_said (routine {ps = ps} {body = body} q r s close x params xs qs b eq) h t =
     let u = subst Fine eq h in
     let v = (fine_back params _ u.1.1).1.1 in
@@ -134,11 +140,14 @@ actor_said (routine {ps = ps} {body = body} q r s close x params xs qs b eq) h t
     }
 
 decl_said : {all : List Marked} {d : DeclTree} → DeclRule all d → Fine (begin (Node 1) all) → DeclSaid d
-decl_said {all = all} (record_decl r) h = record { tokens = begin (Node 1) all; rule = record_rule all (record_decl r); are = fine_are (begin (Node 1) all) h }
-decl_said {all = all} (function_decl at of xs t f eq s) h = record { tokens = begin (Node 1) all; rule = function_rule all (function_decl at of xs t f eq s); are = fine_are (begin (Node 1) all) h }
-decl_said {all = all} (actor_decl at q r s of xs t f eq) h =
+decl_said {all = all} (record_decl r) h = record { tokens = begin (Node 1) all; rule = record_rule all r; are = fine_are (begin (Node 1) all) h }
+decl_said {all = all} (function_decl f) h = record { tokens = begin (Node 1) all; rule = function_rule all f; are = fine_are (begin (Node 1) all) h }
+decl_said {all = all} (actor_decl (actor at q r s of xs t f eq)) h =
     let u = subst Fine eq (unbegun (Node 1) all h) in
-    actor_said f (fine_back of _ u.1.1.1).1 (retyped 1 (omega arith) t (fine_are of (fine_front of _ u.1.1.1)))
+    actor_said f (fine_back of _ u.1.1.1).1 (given (retyped 1 (omega arith) t (fine_are of (fine_front of _ u.1.1.1))))
+decl_said {all = all} (actor_decl (void_actor at q xs f eq)) h =
+    let u = subst Fine eq (unbegun (Node 1) all h) in
+    actor_said f u.1.1 (record { tokens = _; rule = no_result p; are = ((word_spelled word.NoResult, tt), tt) })
 
 abbrev pub DeclsSaid : List DeclTree → Type 0
 DeclsSaid ds = AllByRecursion DeclSaid ds
@@ -152,13 +161,13 @@ decls_said {n = n} (more_decls first more d ds eq) h =
           (fine_back (begin (Declaration n) (begin (Node 1) first)) more t),
     )
 
-pub records_written : (ds : List DeclTree) → DeclsSaid ds → AllByRecursion (λ r. Derived (λ ts. RecordRule ts r)) (records_in ds)
+pub records_written : (ds : List DeclTree) → DeclsSaid ds → AllByRecursion (λ r. Derived (λ ts. HeadRecordRule ts r)) (records_in ds)
 records_written [] h = tt
 records_written (StructDecl r ∷ ds) h = (h.0, records_written ds h.1)
 records_written (FunctionDecl f ∷ ds) h = records_written ds h.1
 records_written (ActorDecl a ∷ ds) h = records_written ds h.1
 
-pub functions_written : (ds : List DeclTree) → DeclsSaid ds → AllByRecursion (λ f. Derived (λ ts. FunctionRule ts f)) (functions_in ds)
+pub functions_written : (ds : List DeclTree) → DeclsSaid ds → AllByRecursion (λ f. Derived (λ ts. HeadFunctionRule Two ts f)) (functions_in ds)
 functions_written [] h = tt
 functions_written (StructDecl r ∷ ds) h = functions_written ds h.1
 functions_written (FunctionDecl f ∷ ds) h = (h.0, functions_written ds h.1)

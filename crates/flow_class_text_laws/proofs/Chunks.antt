@@ -46,8 +46,7 @@ pub record ChunkSaid (ch : Chunk) : Type 0 where
 
 -- what stands around a body: jumps by themselves
 abbrev pub ExitSaid : Exit → Type 0
-ExitSaid (Text None) = ⊥
-ExitSaid (Text (Some close)) = Unit {0}
+ExitSaid (Text close) = Unit {0}
 ExitSaid (Scoped last) = LastSaid last
 ExitSaid (Part last) = LastSaid last
 
@@ -100,7 +99,7 @@ cancelled_said at = (
 )
 
 finished_said : (w : Around) (s : Scope) (x : Exit) → ExitSaid x → ChunkSaid (finished w s x)
-finished_said w s (Text None) h = absurd h
+finished_said w s (Text None) h = record { body = tt; last = tt; more = tt; groups = tt }
 finished_said w s (Text (Some at)) h = record { body = tt; last = cancelled_said at; more = tt; groups = tt }
 finished_said w s (Scoped l) h = record { body = drop_said (scope s); last = h; more = tt; groups = tt }
 finished_said w s (Part l) h = record { body = tt; last = h; more = tt; groups = tt }
@@ -327,7 +326,8 @@ module _ (ns : Names) (slots : List SlotTree) (le : length slots ≤ 2 ^ 32) whe
         let m = exited w.looped.tried n in
         let same = exited_local w.looped.tried n in
         rest_said w.hand x (exits_said w.looped.tried w s n w.looped.again a.1) (lowered_said x s w (begun m) k.1 h a (omega (arith, l, same)))
-    lowered_said (ReturnStmt at None x) s w n k h a l = absurd k.0
+    lowered_said (ReturnStmt at None x) s w n k h a l =
+        rest_said w.hand x (ends_said w s true [] (ReturnLast None) tt tt) (lowered_said x s w (begun n) k.1 h a l)
     lowered_said (ReturnStmt at (Some e) x) s w n k h a l =
         rest_said w.hand x (ends_said w s true [] (ReturnLast (Some (over slots s e))) tt (whole_over slots s (place_small slots s le h) e k.0)) (lowered_said x s w (begun n) k.1 h a l)
     lowered_said (ThrowStmt at e x) s w n k h a l =

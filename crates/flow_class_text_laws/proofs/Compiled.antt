@@ -10,11 +10,7 @@ use Rattle.flow_tree.specs.Body.{Body, ChooseStmt, WaitStmt}
 use Rattle.flow_tree.specs.Decls.{RoutineTree, DeclTree, StructDecl, FunctionDecl, ActorDecl}
 use Rattle.flow_tree.specs.DeclView.{program_of}
 use Rattle.flow_tree.proofs.Folds.{folds_alike}
-use Rattle.flow_tree.specs.Grammar.{TypeRule, int_type, bool_type, string_type, void_type, error_type, named_type, wrapped_type, FutureOf, FutureStreamOf, PromiseOf, PromiseStreamOf}
-use Rattle.flow_tree.specs.Tree.{TypeTree}
-use Rattle.flow_tree.specs.GrammarToken.{Marked}
 use Rattle.flow_ast.specs.Slots.{param_slot, body_slots, slots_of}
-use Rattle.flow_ast.specs.Typing.{is_nothing}
 use Rattle.flow_class.specs.Classes.{ClassTree, RawTree}
 use Rattle.flow_layout.specs.Laying.{layout_of}
 use Rattle.flow_meaning.specs.Evaluating.{Names}
@@ -23,7 +19,7 @@ use Rattle.flow_rules.specs.Known.{row_of, known}
 use Rattle.flow_rules.specs.Rules.{setting_of, decls_refusal}
 use Rattle.flow_valid.specs.Heads.{plain_decls, all_decls, declarations_kept, head_of}
 use Rattle.flow_valid.specs.Validity.{broken_rule}
-use Rattle.flow_split.specs.Around.{whole, Text}
+use Rattle.flow_split.specs.Around.{whole}
 use Rattle.flow_split.specs.Counts.{stmt_groups_counted, groups_counted, groups_in}
 use Rattle.flow_split.specs.Weight.{weight, stmt_weight, weights_counted, body_weight}
 use Rattle.flow_split.proofs.Lengths.{lowered_groups}
@@ -44,11 +40,10 @@ use Rattle.flow_class_text_laws.specs.Laws.{AreLight, CompilesFew}
 use Rattle.flow_class_text_laws.proofs.Writable.{ClassWritable}
 use Rattle.flow_class_text_laws.proofs.Texts.{text_written}
 use Rattle.flow_class_text_laws.proofs.Lexed.{program_fine}
-use Rattle.flow_class_text_laws.proofs.Chunks.{lowered_said, ExitSaid}
+use Rattle.flow_class_text_laws.proofs.Chunks.{lowered_said}
 use Rattle.flow_class_text_laws.proofs.Nesting.{AllSized, NoRecord, plain_sized, no_records}
 use Rattle.flow_class_text_laws.proofs.Kept.{IsFew, ClassSaid, no_fault, class_writable}
 use Rattle.flow_class_text_laws.proofs.Actors.{ActorSaid, DeclsSaid, locals_said, decls_said, records_written, functions_written}
-use Rattle.flow_base.specs.declared.place.Place.{Place}
 
 -- a body has no more groups than it weighs
 stmt_within : (s : Body) (m n : ℕ) → m ≤ n → stmt_groups_counted s m ≤ stmt_weight s + n
@@ -92,27 +87,10 @@ class_few ns a n le formed light =
       groups = omega (arith, light, same, groups_within a.body);
     }
 
--- what has a text has a result, so its body ends by a throw
-has_result : {d : ℕ} {ts : List Marked} {t : TypeTree} → TypeRule d ts t → is_nothing t ≡ false
-has_result (int_type p) = refl
-has_result (bool_type p) = refl
-has_result (string_type p) = refl
-has_result (void_type p) = refl
-has_result (error_type p) = refl
-has_result (named_type x) = refl
-has_result (wrapped_type FutureOf p q r of k e) = refl
-has_result (wrapped_type FutureStreamOf p q r of k e) = refl
-has_result (wrapped_type PromiseOf p q r of k e) = refl
-has_result (wrapped_type PromiseStreamOf p q r of k e) = refl
-
-end_said : (close : Place) (b : Bool) → b ≡ false → ExitSaid (Text (if b then None else Some close))
-end_said close true e = absurd cc
-end_said close false e = tt
-
 class_said : (ns : Names) (a : RoutineTree) (n : ℕ) → n ≤ TOKENS → Formed n a → ActorSaid a → ClassSaid (class_in ns a)
 class_said ns a n le formed h =
     let few : length (slots_of a) ≤ 2 ^ 32 = omega (arith, formed.few, le, length-append (map param_slot a.params) (body_slots a.body), length-map a.params param_slot, slots_count a.body) in
-    let c = lowered_said ns (slots_of a) few a.body [] (whole (close_of a)) (record { block = 1; local = 0; group = 1 }) h.body tt (end_said a.close (is_nothing a.returns) (has_result h.returns.rule), tt) (omega (arith, formed.few, le)) in
+    let c = lowered_said ns (slots_of a) few a.body [] (whole (close_of a)) (record { block = 1; local = 0; group = 1 }) h.body tt (tt, tt) (omega (arith, formed.few, le)) in
     record {
       name = h.name;
       returns = h.returns;

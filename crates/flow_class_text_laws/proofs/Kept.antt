@@ -30,7 +30,7 @@ use Rattle.flow_valid.specs.Named.{listed, expr_places, instr_places, has_place,
 use Rattle.flow_valid.specs.Validity.{slot_rows, local_rows, class_setting, put_fault, is_effect, instr_fits, last_fits, block_fits, types_fit}
 use Rattle.flow_typing_laws.proofs.Typing.Names.{none_some, there, bytes_same}
 use Rattle.flow_classprint.specs.ClassGrammar.{IsNumber, IsPlace, IsSpelled, var_path, callee, method}
-use Rattle.flow_class_text_laws.proofs.Writable.{PathWritable, CalleeWritable, AreNumbers, SomeNumbers, InstrWritable, LastWritable, IsMaybeNumber, IsMaybePlace, CatchWritable, BlockWritable, CallbackWritable, GroupWritable, SlotWritable, TypeWritable, SomeBlocks, FewFrom, all_callbacks, ClassWritable}
+use Rattle.flow_class_text_laws.proofs.Writable.{PathWritable, CalleeWritable, AreNumbers, SomeNumbers, InstrWritable, LastWritable, IsMaybeNumber, IsMaybePlace, CatchWritable, BlockWritable, CallbackWritable, GroupWritable, SlotWritable, TypeWritable, ResultWritable, SomeBlocks, FewFrom, all_callbacks, ClassWritable}
 use Rattle.flow_class_text_laws.proofs.Names.{place_again}
 use Rattle.flow_class_text_laws.proofs.Bodies.{PathSaid, no_path}
 use Rattle.flow_class_text_laws.proofs.Changes.{Reached}
@@ -77,7 +77,7 @@ pub record IsFew (c : ClassTree) : Type 0 where
 -- and what can be said of it
 pub record ClassSaid (c : ClassTree) : Type 0 where
   pub name : IsSpelled (token.Name c.name)
-  pub returns : TypeWritable c.returns
+  pub returns : ResultWritable c.returns
   pub slots : AllByRecursion SlotWritable c.slots
   pub locals : AllByRecursion TypeWritable c.locals
   pub some : 0 < length c.blocks

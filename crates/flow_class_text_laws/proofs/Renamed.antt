@@ -7,7 +7,7 @@ use Rattle.flow_tree.specs.declared.ty.Ident.{Ident}
 use Rattle.flow_tree.specs.Tree.{ExprTree, ExprTrees}
 use Rattle.flow_tree.specs.Decls.{SlotTree}
 use Rattle.flow_tree.specs.GrammarToken.{Part, Node, Marked, begin}
-use Rattle.flow_tree.specs.Grammar.{sign_at, name_at, op_sign, ExprRule, ArgsRule, MoreArgsRule, number, text, truth, falsehood, void, variable, call, paren, field, method, negation, minus, binary, no_args, some_args, end_args, more_args}
+use Rattle.flow_tree.specs.Grammar.{sign_at, name_at, op_sign, ExprRule, ArgsRule, MoreArgsRule, number, text, truth, falsehood, void, variable, call, paren, field, method, index, negation, minus, binary, no_args, some_args, end_args, more_args}
 use Rattle.flow_class.specs.Places.{place_named}
 use Rattle.flow_class.specs.Scopes.{Scope, ident_over, over, over_all}
 use Rattle.flow_classprint.specs.ClassGrammar.{IsFree, AreFree, AllAreFree, IsSpelled}
@@ -36,6 +36,7 @@ deep (call f p q args r e) h = (subst AreTokens e h).0.1.0 (omega arith)
 deep (paren p q of r e) h = (subst AreTokens e h).0.1.0 (omega arith)
 deep (field p x of r e) h = let inner = deep r (unbegin _ of (are_front _ _ (subst AreTokens e h))) in omega (arith, inner)
 deep (method p q r f of args a b e) h = let inner = deep a (unbegin _ of (are_front _ _ (subst AreTokens e h))) in omega (arith, inner)
+deep (index p q of at a b e) h = let inner = deep a (unbegin _ of (are_front _ _ (subst AreTokens e h))) in omega (arith, inner)
 deep (negation p of l r e) h = (subst AreTokens e h).0.1.0 (omega arith)
 deep (minus p of l r e) h = (subst AreTokens e h).0.1.0 (omega arith)
 deep (binary op p left right l a b e) h = let inner = deep a (unbegin _ left (are_front _ _ (subst AreTokens e h))) in omega (arith, inner)
@@ -108,6 +109,20 @@ module _ (slots : List SlotTree) (s : Scope)
                 (rest.0, (rest.1.0, (rest.1.1.0, both_are as_over.0.tokens _ as_over.0.are (are_back args _ rest.1.1.1))));
           },
           (inner.1, as_over.1),
+        )
+    renamed c l (index p q of at a b e) h =
+        let t = subst AreTokens e h in
+        let before = unbegin _ of (are_front _ _ t) in
+        let rest : AreTokens (sign_at sign.OpenSquare p ∷ (at ++ sign_at sign.CloseSquare q ∷ [])) = are_back (begin (Node _) of) _ t in
+        let inner = renamed (suc c) (omega (arith, l)) a before in
+        let as_over = renamed (suc c) (omega (arith, l)) b (are_front at _ rest.1) in (
+          record {
+            tokens = _;
+            rule = index p q inner.0.tokens as_over.0.tokens inner.0.rule as_over.0.rule refl;
+            are = both_are (begin (Node c) inner.0.tokens) _ (rebegin c inner.0.tokens (omega (arith, l, deep a before)) inner.0.are)
+                (rest.0, both_are as_over.0.tokens _ as_over.0.are (are_back at _ rest.1));
+          },
+          (inner.1, (as_over.1, tt)),
         )
     renamed c l (negation p of k r e) h =
         let t = subst AreTokens e h in

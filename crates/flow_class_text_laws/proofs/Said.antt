@@ -44,7 +44,7 @@ LastSaid (GotoLast b) = Unit {0}
 LastSaid (PassLast b) = Unit {0}
 LastSaid (TestLast e y n) = ExprWritable e
 LastSaid (ChooseLast g) = Unit {0}
-LastSaid (ReturnLast None) = ⊥
+LastSaid (ReturnLast None) = Unit {0}
 LastSaid (ReturnLast (Some e)) = ExprWritable e
 LastSaid (ThrowLast e) = ExprWritable e
 

@@ -9,7 +9,7 @@ use Rattle.std.proofs.lemmas.Str.Parse.{IsNumeralModel, numerals_by_value}
 use Rattle.flow_base.specs.Names.{digit, letter, name_byte, is_name_text}
 use Rattle.flow_tree.specs.declared.token.Token.TheVariants as token
 use Rattle.flow_tree.specs.declared.token.Word as words
-use Rattle.flow_tree.specs.declared.token.Word.TheVariants.{Actor, Struct, State, Wait, WaitNext, Choose, When, Loop, While, For, If, Else, Break, Continue, Return, Throw, Try, Catch, Yes, No, Int, Bool as Bool', Str, Void, Error, Future, FutureStream, Promise, PromiseStream}
+use Rattle.flow_tree.specs.declared.token.Word.TheVariants.{Actor, Struct, State, Wait, WaitNext, Choose, When, Loop, While, For, If, Else, Break, Continue, Return, Throw, Try, Catch, Yes, No, Int, Bool as Bool', Str, Void, Error, Future, FutureStream, Promise, PromiseStream, Vector, NoResult}
 use Rattle.flow_tree.specs.declared.token.Sign as signs
 use Rattle.flow_tree.specs.Spelling.{word_bytes, sign_bytes, is_number_text}
 use Rattle.flow_class.specs.declared.class.Slotted.{Slotted}
@@ -81,7 +81,9 @@ all_words =
     word_bytes Future ∷
     word_bytes FutureStream ∷
     word_bytes Promise ∷
-    word_bytes PromiseStream ∷ []
+    word_bytes PromiseStream ∷
+    word_bytes Vector ∷
+    word_bytes NoResult ∷ []
 
 any : (List ℕ → Bool) → List (List ℕ) → Bool
 any is [] = false
@@ -126,6 +128,8 @@ none is e Future = (any_none is all_words e).1.1.1.1.1.1.1.1.1.1.1.1.1.1.1.1.1.1
 none is e FutureStream = (any_none is all_words e).1.1.1.1.1.1.1.1.1.1.1.1.1.1.1.1.1.1.1.1.1.1.1.1.1.1.0
 none is e Promise = (any_none is all_words e).1.1.1.1.1.1.1.1.1.1.1.1.1.1.1.1.1.1.1.1.1.1.1.1.1.1.1.0
 none is e PromiseStream = (any_none is all_words e).1.1.1.1.1.1.1.1.1.1.1.1.1.1.1.1.1.1.1.1.1.1.1.1.1.1.1.1.0
+none is e Vector = (any_none is all_words e).1.1.1.1.1.1.1.1.1.1.1.1.1.1.1.1.1.1.1.1.1.1.1.1.1.1.1.1.1.0
+none is e NoResult = (any_none is all_words e).1.1.1.1.1.1.1.1.1.1.1.1.1.1.1.1.1.1.1.1.1.1.1.1.1.1.1.1.1.1.0
 
 name_spelled : (w : List ℕ) → IsTrue (is_name_text w) → length w ≤ 255 → any (λ v. same v w) all_words ≡ false → IsSpelled (token.Name w)
 name_spelled w text short free = record { bytes = w; spells = (text, λ k e. reserved k e, refl); bounded = short }

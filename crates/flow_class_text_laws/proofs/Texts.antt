@@ -7,6 +7,7 @@ use Rattle.flow_tree.specs.Tree.{TypeTree}
 use Rattle.flow_tree.specs.Decls.{SlotTree, RecordTree, RoutineTree}
 use Rattle.flow_tree.specs.GrammarToken.{Marked}
 use Rattle.flow_class.specs.Classes.{BlockTree, CallbackTree, ClassTree, RawTree}
+use Rattle.flow_classprint.specs.declared.version.Version.TheVariants.{Two}
 use Rattle.flow_classprint.specs.ClassGrammar as rules
 use Rattle.flow_classprint.specs.ClassGrammar.{IsNumber, NumberedRule, CallbackRule, GroupsRule, SlotRule, LocalRule, BlockRule, ClassRule, ClassesRule, IsWritten}
 use Rattle.flow_class_text_laws.proofs.Writable.{Derived, TypeWritable, CallbackWritable, GroupWritable, SlotWritable, SomeBlocks, BlockWritable, FewFrom, all_callbacks, ClassWritable, IsWritable}
@@ -71,14 +72,14 @@ some_blocks : (bs : List BlockTree) → SomeBlocks bs → (b : BlockTree) × (cs
 some_blocks [] h = absurd h
 some_blocks (b ∷ bs) h = (b, bs, refl, h)
 
-class_written : (c : ClassTree) → ClassWritable c → Derived (λ ts. ClassRule ts c)
+class_written : (c : ClassTree) → ClassWritable c → Derived (λ ts. ClassRule Two ts c)
 class_written c h =
     let some = some_blocks c.blocks h.blocks in
     let slots = numbered SlotRule SlotWritable slot_written 0 c.slots h.few_slots h.slots in
     let locals = numbered LocalRule TypeWritable local_written 0 c.locals h.few_locals h.locals in
-    let blocks = numbered BlockRule BlockWritable block_written 0 (some.0 ∷ some.1) (subst (FewFrom 0) some.2 h.few_blocks) some.3 in
+    let blocks = numbered (BlockRule Two) BlockWritable block_written 0 (some.0 ∷ some.1) (subst (FewFrom 0) some.2 h.few_blocks) some.3 in
     let groups = groups_written 1 0 c.groups h.few_groups h.few_callbacks h.groups in
-    subst (λ bs. Derived (λ ts. ClassRule ts (record c { blocks = bs }))) (sym some.2) (record {
+    subst (λ bs. Derived (λ ts. ClassRule Two ts (record c { blocks = bs }))) (sym some.2) (record {
       tokens = _;
       rule = rules.class p p p p p p p h.returns.tokens slots.tokens locals.tokens blocks.tokens groups.tokens h.returns.rule h.params slots.rule locals.rule blocks.rule groups.rule refl;
       are = (
@@ -104,7 +105,7 @@ class_written c h =
     })
 
 -- records before functions, each in its order
-functions_written : (fs : List RoutineTree) → AllByRecursion (λ f. Derived (λ ts. rules.FunctionRule ts f)) fs → Derived (λ ts. rules.HeadsRule ts [] fs)
+functions_written : (fs : List RoutineTree) → AllByRecursion (λ f. Derived (λ ts. rules.HeadFunctionRule Two ts f)) fs → Derived (λ ts. rules.HeadsRule Two ts [] fs)
 functions_written [] h = record { tokens = []; rule = rules.no_heads; are = tt }
 functions_written (f ∷ fs) h =
     let rest = functions_written fs h.1 in
@@ -114,8 +115,8 @@ functions_written (f ∷ fs) h =
       are = both_are h.0.tokens rest.tokens h.0.are rest.are;
     }
 
-heads_written : (rs : List RecordTree) (fs : List RoutineTree) → AllByRecursion (λ r. Derived (λ ts. rules.RecordRule ts r)) rs
-    → AllByRecursion (λ f. Derived (λ ts. rules.FunctionRule ts f)) fs → Derived (λ ts. rules.HeadsRule ts rs fs)
+heads_written : (rs : List RecordTree) (fs : List RoutineTree) → AllByRecursion (λ r. Derived (λ ts. rules.HeadRecordRule ts r)) rs
+    → AllByRecursion (λ f. Derived (λ ts. rules.HeadFunctionRule Two ts f)) fs → Derived (λ ts. rules.HeadsRule Two ts rs fs)
 heads_written [] fs h g = functions_written fs g
 heads_written (r ∷ rs) fs h g =
     let rest = heads_written rs fs h.1 g in
@@ -125,7 +126,7 @@ heads_written (r ∷ rs) fs h g =
       are = both_are h.0.tokens rest.tokens h.0.are rest.are;
     }
 
-classes_written : (cs : List ClassTree) → AllByRecursion ClassWritable cs → Derived (λ ts. ClassesRule ts cs)
+classes_written : (cs : List ClassTree) → AllByRecursion ClassWritable cs → Derived (λ ts. ClassesRule Two ts cs)
 classes_written [] h = record { tokens = []; rule = rules.no_classes; are = tt }
 classes_written (c ∷ cs) h =
     let first = class_written c h.0 in
@@ -140,10 +141,10 @@ pub text_written : (raw : RawTree) → IsWritable raw → IsWritten raw
 text_written raw h =
     let heads = heads_written raw.records raw.functions h.records h.functions in
     let classes = classes_written raw.classes h.classes in
-    let one : IsNumber 1 = omega arith in
-    let tokens = rules.said (codes "classes") p ∷ rules.number_at 1 p ∷ (heads.tokens ++ classes.tokens) in
+    let two : IsNumber 2 = omega arith in
+    let tokens = rules.said (codes "classes") p ∷ rules.number_at 2 p ∷ (heads.tokens ++ classes.tokens) in
     let are : AreTokens tokens =
-    ((said_spelled (codes "classes") said_classes, tt), ((number_spelled 1 one, tt), both_are heads.tokens _ heads.are classes.are)) in
+    ((said_spelled (codes "classes") said_classes, tt), ((number_spelled 2 two, tt), both_are heads.tokens _ heads.are classes.are)) in
     record {
       tokens = tokens;
       rule = rules.text p p heads.tokens classes.tokens heads.rule classes.rule refl;

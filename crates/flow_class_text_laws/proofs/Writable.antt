@@ -12,7 +12,8 @@ use Rattle.flow_tree.specs.GrammarToken.{Marked}
 use Rattle.flow_tree.specs.Grammar.{TypeRule, ExprRule, ArgsRule}
 use Rattle.flow_class.specs.declared.class.Slotted.{Slotted}
 use Rattle.flow_class.specs.Classes.{CatcherTree, InstrTree, SetInstr, EffectInstr, NewInstr, ActInstr, DropInstr, LastTree, GotoLast, PassLast, TestLast, ChooseLast, ReturnLast, ThrowLast, BlockTree, CallbackTree, ClassTree, RawTree}
-use Rattle.flow_classprint.specs.ClassGrammar.{IsNumber, IsPlace, AreFree, AllAreFree, VarPathRule, CalleeRule, RecordRule, FunctionRule, IsSpelled}
+use Rattle.flow_classprint.specs.declared.version.Version.TheVariants.{Two}
+use Rattle.flow_classprint.specs.ClassGrammar.{IsNumber, IsPlace, AreFree, AllAreFree, VarPathRule, CalleeRule, ResultRule, HeadRecordRule, HeadFunctionRule, IsSpelled}
 use Rattle.flow_class_text_laws.proofs.Spelled.{AreTokens}
 
 -- some tokens that can be spelled are derived so
@@ -36,6 +37,10 @@ CalleeWritable xs = Derived (λ ts. CalleeRule ts xs)
 abbrev pub TypeWritable : TypeTree → Type 0
 TypeWritable t = Derived (λ ts. TypeRule 1 ts t)
 
+-- the result of a class, or none
+abbrev pub ResultWritable : TypeTree → Type 0
+ResultWritable t = Derived (λ ts. ResultRule Two ts t)
+
 abbrev pub AreNumbers : List ℕ → Type 0
 AreNumbers ns = AllByRecursion IsNumber ns
 
@@ -56,7 +61,7 @@ LastWritable (GotoLast b) = IsNumber b
 LastWritable (PassLast b) = IsNumber b
 LastWritable (TestLast e y n) = ExprWritable e × IsNumber y × IsNumber n
 LastWritable (ChooseLast g) = IsNumber g
-LastWritable (ReturnLast None) = ⊥
+LastWritable (ReturnLast None) = Unit {0}
 LastWritable (ReturnLast (Some e)) = ExprWritable e
 LastWritable (ThrowLast e) = ExprWritable e
 
@@ -101,7 +106,7 @@ all_callbacks (cs ∷ gs) = cs ++ all_callbacks gs
 
 pub record ClassWritable (c : ClassTree) : Type 0 where
   pub name : IsSpelled (token.Name c.name)
-  pub returns : TypeWritable c.returns
+  pub returns : ResultWritable c.returns
   pub params : IsNumber c.params
   pub slots : AllByRecursion SlotWritable c.slots
   pub few_slots : FewFrom 0 c.slots
@@ -114,6 +119,6 @@ pub record ClassWritable (c : ClassTree) : Type 0 where
   pub few_callbacks : FewFrom 0 (all_callbacks c.groups)
 
 pub record IsWritable (raw : RawTree) : Type 0 where
-  pub records : AllByRecursion (λ r. Derived (λ ts. RecordRule ts r)) raw.records
-  pub functions : AllByRecursion (λ f. Derived (λ ts. FunctionRule ts f)) raw.functions
+  pub records : AllByRecursion (λ r. Derived (λ ts. HeadRecordRule ts r)) raw.records
+  pub functions : AllByRecursion (λ f. Derived (λ ts. HeadFunctionRule Two ts f)) raw.functions
   pub classes : AllByRecursion ClassWritable raw.classes

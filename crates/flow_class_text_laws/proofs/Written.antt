@@ -9,6 +9,7 @@ use Rattle.flow_tree.specs.GrammarStmt.{OperandRule, wait, wait_next}
 use Rattle.flow_class.specs.declared.class.Slotted.{Slotted}
 use Rattle.flow_class.specs.declared.class.Slotted.TheVariants.{Local}
 use Rattle.flow_class.specs.Classes.{CatcherTree, InstrTree, SetInstr, EffectInstr, NewInstr, ActInstr, DropInstr, LastTree, GotoLast, PassLast, TestLast, ChooseLast, ReturnLast, ThrowLast, BlockTree, CallbackTree}
+use Rattle.flow_classprint.specs.declared.version.Version.TheVariants.{Two}
 use Rattle.flow_classprint.specs.ClassGrammar as rules
 use Rattle.flow_classprint.specs.ClassGrammar.{IsNumber, IsPlace, WholeRule, LocalsRule, MaybeLocalsRule, ErrorRule, CatchRule, AssignRule, InstrRule, InstrsRule, LastRule, BlockRule, IntoRule, CallbackRule}
 use Rattle.flow_class_text_laws.proofs.Writable.{Derived, ExprWritable, AreNumbers, InstrWritable, LastWritable, IsMaybeNumber, IsMaybePlace, CatchWritable, BlockWritable, CallbackWritable}
@@ -97,7 +98,7 @@ instrs_written (i ∷ is) h =
     let rest = instrs_written is h.1 in
     record { tokens = first.tokens ++ rest.tokens; rule = rules.more_instrs first.tokens rest.tokens first.rule rest.rule refl; are = both_are first.tokens rest.tokens first.are rest.are }
 
-pub last_written : (l : LastTree) → LastWritable l → Derived (λ ts. LastRule ts l)
+pub last_written : (l : LastTree) → LastWritable l → Derived (λ ts. LastRule Two ts l)
 last_written (GotoLast b) h = record {
   tokens = _;
   rule = rules.goto p p p h;
@@ -132,15 +133,19 @@ last_written (ChooseLast g) h = record {
   rule = rules.choose p p p h;
   are = ((word_spelled word.Choose, tt), ((number_spelled g h, tt), ((sign_spelled sign.Semicolon, tt), tt)));
 }
-last_written (ReturnLast None) h = absurd h
+last_written (ReturnLast None) h = record {
+  tokens = _;
+  rule = rules.return p p [] rules.nothing refl;
+  are = ((word_spelled word.Return, tt), ((sign_spelled sign.Semicolon, tt), tt));
+}
 last_written (ReturnLast (Some e)) h =
     let of = whole e h in
-    record { tokens = _; rule = rules.return p p of.tokens of.rule refl; are = ((word_spelled word.Return, tt), both_are of.tokens _ of.are ((sign_spelled sign.Semicolon, tt), tt)) }
+    record { tokens = _; rule = rules.return p p of.tokens (rules.something of.rule) refl; are = ((word_spelled word.Return, tt), both_are of.tokens _ of.are ((sign_spelled sign.Semicolon, tt), tt)) }
 last_written (ThrowLast e) h =
     let of = whole e h in
     record { tokens = _; rule = rules.throw p p of.tokens of.rule refl; are = ((word_spelled word.Throw, tt), both_are of.tokens _ of.are ((sign_spelled sign.Semicolon, tt), tt)) }
 
-pub block_written : (n : ℕ) → IsNumber n → (b : BlockTree) → BlockWritable b → Derived (λ ts. BlockRule n ts b)
+pub block_written : (n : ℕ) → IsNumber n → (b : BlockTree) → BlockWritable b → Derived (λ ts. BlockRule Two n ts b)
 block_written n small b h =
     let caught = catch_written b.catcher h.0 in
     let body = instrs_written b.body h.1 in

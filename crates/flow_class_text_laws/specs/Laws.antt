@@ -13,7 +13,7 @@ use Rattle.flow_classprint.specs.ClassGrammar.{IsWritten}
 abbrev pub AreLight : Program → Type 0
 AreLight p = first_heavy (program_of p).decls ≡ None
 
--- For each text that the front accepts as a program of such actors, some class text derives its classes.
+-- For each text that the front accepts as a program of such actors, some class text of version 2 derives its classes.
 abbrev pub CompilesToText : Type 0
 CompilesToText =
     (text : List ℕ) (program : Program) → IsSound text program → AreLight program

@@ -1,5 +1,6 @@
 -- The grammar of class text: a rule for each form. Its words are names, but for those that are words of programs too. Each thing is
--- numbered by its place; a number that numbers or names a thing of a class is below 2^32.
+-- numbered by its place; a number that numbers or names a thing of a class is below 2^32. In version 1 a class has a result, and each
+-- `return` gives one, in a function too.
 use Rattle.std.specs.Prelude.{◌≡◌, ℕ, suc, ◌+◌, ◌^◌, ◌<◌, ◌≤◌, pos, Bool, List, [], ◌∷◌, ◌++◌, length, codes}
 use Rattle.std.specs.declared.option.Option.{Option}
 use Rattle.std.specs.declared.option.Option.TheVariants.{None, Some}
@@ -10,17 +11,30 @@ use Rattle.flow_tree.specs.declared.token.Sign.TheVariants as sign
 use Rattle.flow_tree.specs.declared.token.Token.TheVariants as token
 use Rattle.flow_tree.specs.declared.token.Token.{Token}
 use Rattle.flow_tree.specs.declared.ty.Ident.{Ident}
-use Rattle.flow_tree.specs.Tree.{TypeTree, ExprTree, ExprTrees, IntExpr, TextExpr, BoolExpr, VoidExpr, VarExpr, CallExpr, FieldExpr, MethodExpr, NotExpr, NegExpr, BinaryExpr, ParenExpr, NoExprs, MoreExprs}
-use Rattle.flow_tree.specs.Decls.{SlotTree, RecordTree, RoutineTree, StructDecl, FunctionDecl}
+use Rattle.flow_tree.specs.Tree.{TypeTree, NothingType, ExprTree, ExprTrees, IntExpr, TextExpr, BoolExpr, VoidExpr, VarExpr, CallExpr, FieldExpr, MethodExpr, NotExpr, NegExpr, BinaryExpr, ParenExpr, NoExprs, MoreExprs}
+use Rattle.flow_tree.specs.Decls.{SlotTree, RecordTree, RoutineTree}
 use Rattle.flow_tree.specs.Spelling.{Spells, IsBounded}
 use Rattle.flow_tree.specs.GrammarToken.{Node, Marked, opens, begin, KeepsOf}
 use Rattle.flow_tree.specs.Grammar.{sign_at, word_at, name_at, in_round, in_curly, TypeRule, ExprRule, ArgsRule}
 use Rattle.flow_tree.specs.GrammarStmt.{PathRule, OperandRule}
-use Rattle.flow_tree.specs.GrammarDecl.{DeclRule}
+use Rattle.flow_tree.specs.GrammarDecl.{RecordRule, FunctionRule}
+use Rattle.flow_tree.specs.declared.decl.RoutineKind.{RoutineKind}
+use Rattle.flow_tree.specs.declared.decl.RoutineKind.TheVariants.{Function, OldFunction}
+use Rattle.flow_classprint.specs.declared.version.Version.{Version}
+use Rattle.flow_classprint.specs.declared.version.Version.TheVariants.{One, Two}
 use Rattle.flow_class.specs.declared.class.Slotted.{Slotted}
 use Rattle.flow_class.specs.declared.class.Slotted.TheVariants.{Slot, Local}
 use Rattle.flow_class.specs.Places.{place_name, place_named}
 use Rattle.flow_class.specs.Classes.{CatcherTree, InstrTree, SetInstr, EffectInstr, NewInstr, ActInstr, DropInstr, LastTree, GotoLast, PassLast, TestLast, ChooseLast, ReturnLast, ThrowLast, BlockTree, CallbackTree, ClassTree, RawTree}
+
+-- a version by its number, and of which kind its functions are
+abbrev pub version_number : Version → ℕ
+version_number One = 1
+version_number Two = 2
+
+abbrev pub functions_of : Version → RoutineKind
+functions_of One = OldFunction
+functions_of Two = Function
 
 -- a word that is a name
 abbrev pub said : List ℕ → Place → Marked
@@ -138,37 +152,42 @@ pub data InstrsRule : List Marked → List InstrTree → Type 0 where
       → all ≡ first ++ rest
       → InstrsRule all (i ∷ is)
 
+-- what a `return` gives: [ expr ], which is absent in version 2 alone
+pub data ReturnedRule : Version → List Marked → Option ExprTree → Type 0 where
+  nothing : ReturnedRule Two [] None
+  something : {v : Version} {e : ExprTree} {all : List Marked} → WholeRule all e → ReturnedRule v all (Some e)
+
 -- the last instruction of a block: "goto" number ";" | "pass" number ";" | "test" "(" expr ")" "goto" number "else" number ";"
--- | "choose" number ";" | "return" expr ";" | "throw" expr ";"
-pub data LastRule : List Marked → LastTree → Type 0 where
+-- | "choose" number ";" | "return" [ expr ] ";" | "throw" expr ";"
+pub data LastRule (v : Version) : List Marked → LastTree → Type 0 where
   goto : {b : ℕ} (p q r : Place) → IsNumber b
-      → LastRule (said (codes "goto") p ∷ number_at b q ∷ sign_at sign.Semicolon r ∷ []) (GotoLast b)
+      → LastRule v (said (codes "goto") p ∷ number_at b q ∷ sign_at sign.Semicolon r ∷ []) (GotoLast b)
   pass : {b : ℕ} (p q r : Place) → IsNumber b
-      → LastRule (said (codes "pass") p ∷ number_at b q ∷ sign_at sign.Semicolon r ∷ []) (PassLast b)
-  test : {e : ExprTree} {y n : ℕ} {all : List Marked} (p q r s t u v w : Place) (of : List Marked)
+      → LastRule v (said (codes "pass") p ∷ number_at b q ∷ sign_at sign.Semicolon r ∷ []) (PassLast b)
+  test : {e : ExprTree} {y n : ℕ} {all : List Marked} (p q r s t u o w : Place) (of : List Marked)
       → WholeRule of e → IsNumber y → IsNumber n
       → all ≡ said (codes "test") p ∷ in_round q of r
-      (said (codes "goto") s ∷ number_at y t ∷ word_at word.Else u ∷ number_at n v ∷ sign_at sign.Semicolon w ∷ [])
-      → LastRule all (TestLast e y n)
+      (said (codes "goto") s ∷ number_at y t ∷ word_at word.Else u ∷ number_at n o ∷ sign_at sign.Semicolon w ∷ [])
+      → LastRule v all (TestLast e y n)
   choose : {g : ℕ} (p q r : Place) → IsNumber g
-      → LastRule (word_at word.Choose p ∷ number_at g q ∷ sign_at sign.Semicolon r ∷ []) (ChooseLast g)
-  return : {e : ExprTree} {all : List Marked} (p q : Place) (of : List Marked)
-      → WholeRule of e
+      → LastRule v (word_at word.Choose p ∷ number_at g q ∷ sign_at sign.Semicolon r ∷ []) (ChooseLast g)
+  return : {e : Option ExprTree} {all : List Marked} (p q : Place) (of : List Marked)
+      → ReturnedRule v of e
       → all ≡ word_at word.Return p ∷ (of ++ sign_at sign.Semicolon q ∷ [])
-      → LastRule all (ReturnLast (Some e))
+      → LastRule v all (ReturnLast e)
   throw : {e : ExprTree} {all : List Marked} (p q : Place) (of : List Marked)
       → WholeRule of e
       → all ≡ word_at word.Throw p ∷ (of ++ sign_at sign.Semicolon q ∷ [])
-      → LastRule all (ThrowLast e)
+      → LastRule v all (ThrowLast e)
 
 -- a block of this number: "block" number catch "{" { instr } last "}"
-pub data BlockRule (n : ℕ) : List Marked → BlockTree → Type 0 where
+pub data BlockRule (v : Version) (n : ℕ) : List Marked → BlockTree → Type 0 where
   block : {c : Option CatcherTree} {is : List InstrTree} {l : LastTree} {all : List Marked}
       (p q r s : Place) (caught body last : List Marked)
-      → IsNumber n → CatchRule caught c → InstrsRule body is → LastRule last l
+      → IsNumber n → CatchRule caught c → InstrsRule body is → LastRule v last l
       → all ≡ said (codes "block") p ∷ number_at n q
       ∷ (caught ++ (sign_at sign.OpenCurly r ∷ (body ++ (last ++ sign_at sign.CloseCurly s ∷ []))))
-      → BlockRule n all (record { catcher = c; body = is; last = l })
+      → BlockRule v n all (record { catcher = c; body = is; last = l })
 
 -- things one after another, the first with this number
 pub data NumberedRule {A : Type 0} (rule : ℕ → List Marked → A → Type 0) : ℕ → List Marked → List A → Type 0 where
@@ -216,51 +235,60 @@ pub data LocalRule (n : ℕ) : List Marked → TypeTree → Type 0 where
       → all ≡ said (codes "local") p ∷ number_at n q ∷ (of ++ sign_at sign.Semicolon r ∷ [])
       → LocalRule n all t
 
--- "class" name "returns" type "params" number "{" { slot } { local } block { block } { group } "}": a class has a block at least
-pub data ClassRule : List Marked → ClassTree → Type 0 where
+-- what a class gives: type | "void", which version 1 hasn't
+pub data ResultRule : Version → List Marked → TypeTree → Type 0 where
+  result : {v : Version} {t : TypeTree} {all : List Marked} → TypeRule 1 all t → ResultRule v all t
+  no_result : (p : Place) → ResultRule Two (word_at word.NoResult p ∷ []) NothingType
+
+-- "class" name "returns" result "params" number "{" { slot } { local } block { block } { group } "}": a class has a block at least
+pub data ClassRule (v : Version) : List Marked → ClassTree → Type 0 where
   class : {x : List ℕ} {t : TypeTree} {params : ℕ} {ss : List SlotTree} {ls : List TypeTree} {b : BlockTree} {bs : List BlockTree}
       {gs : List (List CallbackTree)} {all : List Marked}
-      (p q r s u v w : Place) (of slots locals blocks groups : List Marked)
-      → TypeRule 1 of t → IsNumber params → NumberedRule SlotRule 0 slots ss → NumberedRule LocalRule 0 locals ls
-      → NumberedRule BlockRule 0 blocks (b ∷ bs) → GroupsRule 1 0 groups gs
+      (p q r s u o w : Place) (of slots locals blocks groups : List Marked)
+      → ResultRule v of t → IsNumber params → NumberedRule SlotRule 0 slots ss → NumberedRule LocalRule 0 locals ls
+      → NumberedRule (BlockRule v) 0 blocks (b ∷ bs) → GroupsRule 1 0 groups gs
       → all ≡ said (codes "class") p ∷ said x q ∷ said (codes "returns") r ∷ (of ++ (said (codes "params") s ∷ number_at params u
-      ∷ sign_at sign.OpenCurly v ∷ (slots ++ (locals ++ (blocks ++ (groups ++ sign_at sign.CloseCurly w ∷ []))))))
-      → ClassRule all (record { name = x; returns = t; params = params; slots = ss; locals = ls; blocks = b ∷ bs; groups = gs })
+      ∷ sign_at sign.OpenCurly o ∷ (slots ++ (locals ++ (blocks ++ (groups ++ sign_at sign.CloseCurly w ∷ []))))))
+      → ClassRule v all (record { name = x; returns = t; params = params; slots = ss; locals = ls; blocks = b ∷ bs; groups = gs })
 
 -- classes one after another
-pub data ClassesRule : List Marked → List ClassTree → Type 0 where
-  no_classes : ClassesRule [] []
+pub data ClassesRule (v : Version) : List Marked → List ClassTree → Type 0 where
+  no_classes : ClassesRule v [] []
   more_classes : {c : ClassTree} {cs : List ClassTree} {all : List Marked} (first rest : List Marked)
-      → ClassRule first c → ClassesRule rest cs
+      → ClassRule v first c → ClassesRule v rest cs
       → all ≡ first ++ rest
-      → ClassesRule all (c ∷ cs)
+      → ClassesRule v all (c ∷ cs)
 
 -- a record or a function, of depth 1
-pub data RecordRule : List Marked → RecordTree → Type 0 where
-  record_rule : {r : RecordTree} (of : List Marked) → DeclRule of (StructDecl r) → RecordRule (begin (Node 1) of) r
+pub data HeadRecordRule : List Marked → RecordTree → Type 0 where
+  record_rule : {r : RecordTree} (of : List Marked) → RecordRule of r → HeadRecordRule (begin (Node 1) of) r
 
-pub data FunctionRule : List Marked → RoutineTree → Type 0 where
-  function_rule : {f : RoutineTree} (of : List Marked) → DeclRule of (FunctionDecl f) → FunctionRule (begin (Node 1) of) f
+pub data HeadFunctionRule (v : Version) : List Marked → RoutineTree → Type 0 where
+  function_rule : {f : RoutineTree} (of : List Marked) → FunctionRule (functions_of v) of f → HeadFunctionRule v (begin (Node 1) of) f
 
 -- records and functions one after another, in any order: { record | function }; these are the records in their order, and these the
 -- functions in theirs
-pub data HeadsRule : List Marked → List RecordTree → List RoutineTree → Type 0 where
-  no_heads : HeadsRule [] [] []
+pub data HeadsRule (v : Version) : List Marked → List RecordTree → List RoutineTree → Type 0 where
+  no_heads : HeadsRule v [] [] []
   more_records : {r : RecordTree} {rs : List RecordTree} {fs : List RoutineTree} {all : List Marked} (first rest : List Marked)
-      → RecordRule first r → HeadsRule rest rs fs
+      → HeadRecordRule first r → HeadsRule v rest rs fs
       → all ≡ first ++ rest
-      → HeadsRule all (r ∷ rs) fs
+      → HeadsRule v all (r ∷ rs) fs
   more_functions : {f : RoutineTree} {rs : List RecordTree} {fs : List RoutineTree} {all : List Marked} (first rest : List Marked)
-      → FunctionRule first f → HeadsRule rest rs fs
+      → HeadFunctionRule v first f → HeadsRule v rest rs fs
       → all ≡ first ++ rest
-      → HeadsRule all rs (f ∷ fs)
+      → HeadsRule v all rs (f ∷ fs)
 
 -- a class text of this version: "classes" version { record | function } { class }
-pub data TextRule (version : ℕ) : List Marked → RawTree → Type 0 where
+pub data VersionRule (v : Version) : List Marked → RawTree → Type 0 where
   text : {raw : RawTree} {all : List Marked} (p q : Place) (heads classes : List Marked)
-      → HeadsRule heads raw.records raw.functions → ClassesRule classes raw.classes
-      → all ≡ said (codes "classes") p ∷ number_at version q ∷ (heads ++ classes)
-      → TextRule version all raw
+      → HeadsRule v heads raw.records raw.functions → ClassesRule v classes raw.classes
+      → all ≡ said (codes "classes") p ∷ number_at (version_number v) q ∷ (heads ++ classes)
+      → VersionRule v all raw
+
+-- a class text of one of the versions
+pub data TextRule : List Marked → RawTree → Type 0 where
+  of_version : (v : Version) {raw : RawTree} {all : List Marked} → VersionRule v all raw → TextRule all raw
 
 -- bytes spell the token
 pub record IsSpelled (t : Token) : Type 0 where
@@ -272,9 +300,9 @@ abbrev pub AreSpelled : List Marked → Type 0
 AreSpelled [] = Unit {0}
 AreSpelled (x ∷ xs) = IsSpelled x.spot.token × AreSpelled xs
 
--- Some class text derives these records, functions and classes, within the limits of class text: no node is deeper than 64.
+-- Some class text of version 2 derives these records, functions and classes, within the limits of class text: no node is deeper than 64.
 pub record IsWritten (raw : RawTree) : Type 0 where
   pub tokens : List Marked
-  pub rule : TextRule 1 tokens raw
+  pub rule : VersionRule Two tokens raw
   pub spelled : AreSpelled tokens
   pub keeps : KeepsOf OF_CLASS_TEXT 7 tokens

@@ -118,9 +118,9 @@ record_text r = decl_text (StructDecl r)
 abbrev pub function_text : RoutineTree → List ℕ
 function_text f = decl_text (FunctionDecl f)
 
--- the records, the functions and the classes of a program, behind a line that tells the format
+-- the records, the functions and the classes of a program, behind a line that tells the format and its version
 abbrev pub front_text : RawTree → List ℕ
-front_text r = line 0 (codes "classes 1") ++ all_text record_text r.records ++ all_text function_text r.functions
+front_text r = line 0 (codes "classes 2") ++ all_text record_text r.records ++ all_text function_text r.functions
 
 abbrev pub ClassText : RawTree → List ℕ
 ClassText r = front_text r ++ all_text class_text r.classes

@@ -5,6 +5,7 @@ mod block;
 mod class;
 mod instr;
 mod print;
+pub mod version;
 mod write;
 
 pub use print::print_classes;

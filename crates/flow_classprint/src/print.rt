@@ -51,7 +51,7 @@ fn put_classes(out: &mut Source, classes: &[Class]) -> Result<(), NoMemory>
 pub fn put_front(out: &mut Source, raw: &RawClasses) -> Result<(), NoMemory>
     ensures { IfOk result (λ _. out.new ≡ out.old ++ front_text (raw_of raw.now)) }
 {
-    out.put(b"classes 1\n")?;
+    out.put(b"classes 2\n")?;
     put_records(out, &raw.records)?;
     put_functions(out, &raw.functions)?;
     Ok(())

@@ -24,6 +24,7 @@ use Rattle.flow_tree.specs.declared.fault.SourceFault.{SourceFault}
 use Rattle.flow_parse.specs.Failing.{Fails}
 use Rattle.flow_parse.proofs.Leaves.{free, nothing, narrow, then_reads, means, done, fails}
 use Rattle.flow_class.specs.Classes.{CatcherTree, InstrTree, LastTree, BlockTree}
+use Rattle.flow_classprint.specs.declared.version.Version.{Version}
 use Rattle.flow_classprint.specs.ClassGrammar.{said, number_at, place_at, IsNumber, LocalsRule, one, more as another, MaybeLocalsRule, no_locals, locals, ErrorRule, no_error, error, CatchRule, no_catch, catch, InstrRule, InstrsRule, no_instrs, more_instrs, LastRule, goto, BlockRule, block, NumberedRule, none, next}
 use Rattle.flow_class.specs.declared.class.Slotted.TheVariants.{Local}
 use Rattle.flow_class.specs.Classes.{GotoLast}
@@ -210,11 +211,11 @@ some_catch : Inhabited CatchRule
 some_catch = record { marked = []; tree = None; rule = no_catch }
 
 -- { instr } last "}"
-some_last : Inhabited LastRule
-some_last = record { marked = _; tree = GotoLast 0; rule = goto nowhere nowhere nowhere (omega arith) }
+some_last : (v : Version) → Inhabited (LastRule v)
+some_last v = record { marked = _; tree = GotoLast 0; rule = goto nowhere nowhere nowhere (omega arith) }
 
-pub some_closed_last : Inhabited (Closed (token.Sign sign.CloseCurly) LastRule)
-some_closed_last = some_closed (token.Sign sign.CloseCurly) LastRule some_last
+pub some_closed_last : (v : Version) → Inhabited (Closed (token.Sign sign.CloseCurly) (LastRule v))
+some_closed_last v = some_closed (token.Sign sign.CloseCurly) (LastRule v) (some_last v)
 
 -- a last instruction begins with g, p or t, or with a word of programs
 abbrev ends_block : Token → Bool
@@ -240,42 +241,42 @@ instr_goes_on t (inr (inr (inr (inr f)))) = ap ends_block f
 last_no_instr : (k : LastKind) (t : Token) → t ≡ last_token k → InstrToken t → ⊥
 last_no_instr k t e i = let f : true ≡ false = sym (last_ends k) ∙ ap ends_block (sym e) ∙ instr_goes_on t i in cc
 
-pub body_link : Link InstrsRule (NotFirst InstrToken) (λ is. Closed (token.Sign sign.CloseCurly) LastRule) Any
-body_link = record {
+pub body_link : (version : Version) → Link InstrsRule (NotFirst InstrToken) (λ is. Closed (token.Sign sign.CloseCurly) (LastRule version)) Any
+body_link version = record {
   follows = λ a b v z s f. subst (λ k. NotFirst InstrToken a (k ++ z)) (sym s.3)
       (subst (NotFirst InstrToken a) (sym (append_assoc s.1 (sign_at sign.CloseCurly s.0 ∷ []) z))
       (starts_not InstrToken (λ t. t ≡ last_token (kind s.2)) a s.1 (sign_at sign.CloseCurly s.0 ∷ z) (λ t q i. last_no_instr (kind s.2) t q i) (last_starts s.2)));
-  more = λ is. some_closed_last;
+  more = λ is. some_closed_last version;
 }
   where
-    kind : {w : List Marked} {l : LastTree} → LastRule w l → LastKind
+    kind : {w : List Marked} {l : LastTree} → LastRule version w l → LastKind
     kind r = last_kind r
 
 -- "block" number catch "{" body
-pub some_body : Inhabited BlockBody
-some_body = some_both InstrsRule (Closed (token.Sign sign.CloseCurly) LastRule) (record { marked = []; tree = []; rule = no_instrs }) some_closed_last
+pub some_body : (v : Version) → Inhabited (BlockBody v)
+some_body v = some_both InstrsRule (Closed (token.Sign sign.CloseCurly) (LastRule v)) (record { marked = []; tree = []; rule = no_instrs }) (some_closed_last v)
 
 pub some_numbered : (x : List ℕ) (n : ℕ) → Inhabited (Numbered x n)
 some_numbered x n = some_behind (token.Name x) (Tok (token.Number (pos n))) (some_opening [] (token.Number (pos n)))
 
-abbrev pub BlockShape : ℕ → List Marked → Place × (Option CatcherTree × (List InstrTree × LastTree)) → Type 0
-BlockShape n = Both (Numbered (codes "block") n) (Both CatchRule (Behind (token.Sign sign.OpenCurly) BlockBody))
+abbrev pub BlockShape : Version → ℕ → List Marked → Place × (Option CatcherTree × (List InstrTree × LastTree)) → Type 0
+BlockShape v n = Both (Numbered (codes "block") n) (Both CatchRule (Behind (token.Sign sign.OpenCurly) (BlockBody v)))
 
 abbrev pub block_tree : Place × (Option CatcherTree × (List InstrTree × LastTree)) → BlockTree
 block_tree x = record { catcher = x.1.0; body = x.1.1.0; last = x.1.1.1 }
 
-pub block_number_link : (n : ℕ) → Link (Numbered (codes "block") n) Any (λ p. Both CatchRule (Behind (token.Sign sign.OpenCurly) BlockBody)) Any
-block_number_link n = free (λ p. some_both CatchRule (Behind (token.Sign sign.OpenCurly) BlockBody) some_catch (some_behind (token.Sign sign.OpenCurly) BlockBody some_body))
+pub block_number_link : (v : Version) (n : ℕ) → Link (Numbered (codes "block") n) Any (λ p. Both CatchRule (Behind (token.Sign sign.OpenCurly) (BlockBody v))) Any
+block_number_link v n = free (λ p. some_both CatchRule (Behind (token.Sign sign.OpenCurly) (BlockBody v)) some_catch (some_behind (token.Sign sign.OpenCurly) (BlockBody v) (some_body v)))
 
-pub block_catch_link : Link CatchRule (NotBefore (token.Word word.Catch)) (λ c. Behind (token.Sign sign.OpenCurly) BlockBody) Any
-block_catch_link = behind_link CatchRule (NotBefore (token.Word word.Catch)) (token.Sign sign.OpenCurly) BlockBody Any (λ a p z e. absurd (cc)) some_body
+pub block_catch_link : (v : Version) → Link CatchRule (NotBefore (token.Word word.Catch)) (λ c. Behind (token.Sign sign.OpenCurly) (BlockBody v)) Any
+block_catch_link v = behind_link CatchRule (NotBefore (token.Word word.Catch)) (token.Sign sign.OpenCurly) (BlockBody v) Any (λ a p z e. absurd (cc)) (some_body v)
 
 -- a word and its number, and what follows
 pub numbered_then : {w a k r m : List Marked} {x y : Marked} → w ≡ a ++ r → a ≡ x ∷ k → k ≡ y ∷ [] → r ≡ m → w ≡ x ∷ y ∷ m
 numbered_then {r = r} {x = x} {y = y} e f g h = e ∙ ap (λ z. z ++ r) f ∙ ap (λ z. (x ∷ z) ++ r) g ∙ ap (λ z. x ∷ y ∷ z) h
 
-pub block_turns : (n : ℕ) (o : Option Token) → IsNumber n → Turns (BlockRule n) Any (BlockShape n) Any block_tree o
-block_turns n o h = record {
+pub block_turns : (v : Version) (n : ℕ) (o : Option Token) → IsNumber n → Turns (BlockRule v n) Any (BlockShape v n) Any block_tree o
+block_turns v n o h = record {
   back = λ w z b r f l. of w z b r;
   forth = λ w x r.
       let c = r.back in
@@ -285,7 +286,7 @@ block_turns n o h = record {
       (numbered_then r.is r.front.3 r.front.2 (part_then c.first c.is (then_same d.3 (part_then b.first b.is b.back.3))));
 }
   where
-    of : (w z : List Marked) (b : BlockTree) → BlockRule n w b → Back (BlockRule n) Any (BlockShape n) Any block_tree w z b
+    of : (w z : List Marked) (b : BlockTree) → BlockRule v n w b → Back (BlockRule v n) Any (BlockShape v n) Any block_tree w z b
     of w z b (block {c} {is} {l} p q r s caught body last k hc hb hl e) = record {
       tree = (q, (c, (is, l)));
       rule = record {
@@ -305,14 +306,14 @@ block_turns n o h = record {
       follows = tt;
     }
 
-pub block_starts : (n : ℕ) (w : List Marked) (b : BlockTree) → BlockRule n w b → Starts (λ t. t ≡ token.Name (codes "block")) w
-block_starts n w b (block p q r s caught body last k hc hb hl e) = subst (Starts (λ t. t ≡ token.Name (codes "block"))) (sym e) refl
+pub block_starts : (v : Version) (n : ℕ) (w : List Marked) (b : BlockTree) → BlockRule v n w b → Starts (λ t. t ≡ token.Name (codes "block")) w
+block_starts v n w b (block p q r s caught body last k hc hb hl e) = subst (Starts (λ t. t ≡ token.Name (codes "block"))) (sym e) refl
 
-pub some_block : (n : ℕ) → IsNumber n → Inhabited (BlockRule n)
-some_block n h =
-    let y = some_both (Numbered (codes "block") n) (Both CatchRule (Behind (token.Sign sign.OpenCurly) BlockBody)) (some_numbered (codes "block") n)
-    (some_both CatchRule (Behind (token.Sign sign.OpenCurly) BlockBody) some_catch (some_behind (token.Sign sign.OpenCurly) BlockBody some_body)) in
-    record { marked = y.marked; tree = block_tree y.tree; rule = (block_turns n None h).forth y.marked y.tree y.rule }
+pub some_block : (v : Version) (n : ℕ) → IsNumber n → Inhabited (BlockRule v n)
+some_block v n h =
+    let y = some_both (Numbered (codes "block") n) (Both CatchRule (Behind (token.Sign sign.OpenCurly) (BlockBody v))) (some_numbered (codes "block") n)
+    (some_both CatchRule (Behind (token.Sign sign.OpenCurly) (BlockBody v)) some_catch (some_behind (token.Sign sign.OpenCurly) (BlockBody v) (some_body v))) in
+    record { marked = y.marked; tree = block_tree y.tree; rule = (block_turns v n None h).forth y.marked y.tree y.rule }
 
 -- how the locals of an instruction are read
 module _ (t : Tokens) where

@@ -78,7 +78,7 @@ begins_fewer limits {R = R} n i k ts h g = record {
 
 module _ (t : Tokens) where
   -- what begins with no token more begins no class text
-  begins_none : (n k : ℕ) → n ≤ 7 → k ≤ length t.spots.items → Never OF_CLASS_TEXT (TextRule 1) AtEnd n (suc k) t.spots.items → BeginsText t k → ⊥
+  begins_none : (n k : ℕ) → n ≤ 7 → k ≤ length t.spots.items → Never OF_CLASS_TEXT TextRule AtEnd n (suc k) t.spots.items → BeginsText t k → ⊥
   begins_none n k le h f (begun lt g) =
       let ts = t.spots.items in
       let us = spots_of g.read ++ spots_of g.rest in
@@ -93,7 +93,7 @@ module _ (t : Tokens) where
       let u = subst (λ ts. Sees OF_CLASS_TEXT n (suc (length t.spots.items)) ts d.marked) d.is s in
       f d.marked [] raw d.rule refl (subst (Sees OF_CLASS_TEXT n (suc (length t.spots.items)) t.spots.items) (sym (append-nil d.marked)) u)
 
-  pub fails_in : (n : ℕ) (at : Place) → n ≤ 7 → StopsAt OF_CLASS_TEXT (TextRule 1) AtEnd n t 0 at → FailsIn t at.line
+  pub fails_in : (n : ℕ) (at : Place) → n ≤ 7 → StopsAt OF_CLASS_TEXT TextRule AtEnd n t 0 at → FailsIn t at.line
   fails_in n at le s = record {
     number = s.number;
     within = s.stops.within;
@@ -103,7 +103,7 @@ module _ (t : Tokens) where
   }
 
   pub is_class_text : (bytes : List ℕ) (raw : RawTree) → length bytes ≤ CLASS_BYTES → Lexes bytes t.spots.items t.end
-      → Reads OF_CLASS_TEXT (TextRule 1) AtEnd t.spots.items 0 raw (length t.spots.items) → IsClassText bytes raw
+      → Reads OF_CLASS_TEXT TextRule AtEnd t.spots.items 0 raw (length t.spots.items) → IsClassText bytes raw
   is_class_text bytes raw short l r = record {
     short = short;
     spots = t.spots.items;

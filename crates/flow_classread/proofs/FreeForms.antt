@@ -13,7 +13,7 @@ use Rattle.flow_tree.specs.declared.expr.Op.{Op}
 use Rattle.flow_tree.specs.declared.expr.Op.TheVariants.{Or, And, Eq, Ne, Lt, Le, Gt, Ge, Add, Sub, Mul, Div, Rem}
 use Rattle.flow_tree.specs.Tree.{ExprTree, ExprTrees}
 use Rattle.flow_tree.specs.GrammarToken.{Part, Node, Marked, begin}
-use Rattle.flow_tree.specs.Grammar.{sign_at, name_at, in_round, op_sign, ExprRule, number, text, truth, falsehood, void, variable, call, paren, field, method, negation, minus, binary, ArgsRule, no_args, some_args, MoreArgsRule, end_args, more_args}
+use Rattle.flow_tree.specs.Grammar.{sign_at, name_at, in_round, op_sign, ExprRule, number, text, truth, falsehood, void, variable, call, paren, field, method, index, negation, minus, binary, ArgsRule, no_args, some_args, MoreArgsRule, end_args, more_args}
 use Rattle.flow_class.specs.declared.class.Slotted.{Slotted}
 use Rattle.flow_class.specs.declared.class.Slotted.TheVariants.{Slot, Local}
 use Rattle.flow_class.specs.Places.{place_named, number_of, is_number, small, small_place}
@@ -169,6 +169,9 @@ close_no p v e = sign_no sign.CloseRound (λ f. cc) p v e
 round : (xs v : List Marked) (q : Place) → (xs ++ sign_at sign.CloseRound q ∷ []) ++ v ≡ xs ++ (sign_at sign.CloseRound q ∷ v)
 round xs v q = append_assoc xs (sign_at sign.CloseRound q ∷ []) v
 
+square : (xs v : List Marked) (q : Place) → (xs ++ sign_at sign.CloseSquare q ∷ []) ++ v ≡ xs ++ (sign_at sign.CloseSquare q ∷ v)
+square xs v q = append_assoc xs (sign_at sign.CloseSquare q ∷ []) v
+
 mutual
   pub free_expr : {k d : ℕ} {w : List Marked} {e : ExprTree} → ExprRule k d w e → (v : List Marked) → (Opens v → ⊥) → FreeMarks false (w ++ v) → AreFree e × FreeMarks false v
   free_expr (number n p) v nope h = (tt, h.1)
@@ -196,6 +199,12 @@ mutual
       let s = free_expr t (tail ++ v) (sign_no sign.Dot (λ f. cc) p (name_at f ∷ (in_round q args r [] ++ v))) (free_begin false (Node d) of (tail ++ v) g) in
       let u = free_args a (sign_at sign.CloseRound r ∷ v) (close_no r v) (subst (FreeMarks false) (round args v r) s.1.1.1.1) in
       ((s.0, u.0), u.1.1)
+  free_expr {d = d} (index p q of at t i e) v nope h =
+      let tail = sign_at sign.OpenSquare p ∷ (at ++ sign_at sign.CloseSquare q ∷ []) in
+      let g = subst (FreeMarks false) (append_assoc (begin (Node d) of) tail v) (subst (λ k. FreeMarks false (k ++ v)) e h) in
+      let s = free_expr t (tail ++ v) (sign_no sign.OpenSquare (λ f. cc) p ((at ++ sign_at sign.CloseSquare q ∷ []) ++ v)) (free_begin false (Node d) of (tail ++ v) g) in
+      let u = free_expr i (sign_at sign.CloseSquare q ∷ v) (sign_no sign.CloseSquare (λ f. cc) q v) (subst (FreeMarks false) (square at v q) s.1.1) in
+      ((s.0, (u.0, tt)), u.1.1)
   free_expr (negation p of le r e) v nope h = let g = subst (λ k. FreeMarks false (k ++ v)) e h in free_expr r v nope g.1
   free_expr (minus p of le r e) v nope h = let g = subst (λ k. FreeMarks false (k ++ v)) e h in free_expr r v nope g.1
   free_expr {d = d} (binary op p left right le a b e) v nope h =
@@ -257,6 +266,13 @@ mutual
                 (args_free a f.1 (sign_at sign.CloseRound r ∷ v) ((λ x. absurd (no_true x)), h)),
           ),
         ),
+      ))))
+  expr_free {d = d} (index p q of at t i e) f b v h =
+      let tail = sign_at sign.OpenSquare p ∷ (at ++ sign_at sign.CloseSquare q ∷ []) in
+      subst (λ k. FreeMarks b (k ++ v)) (sym e) (subst (FreeMarks b) (sym (append_assoc (begin (Node d) of) tail v))
+      (begin_free b (Node d) of (tail ++ v) (expr_free t f.0 b (tail ++ v) (
+        (λ y. absurd (no_true y)),
+        subst (FreeMarks false) (sym (square at v q)) (expr_free i f.1.0 false (sign_at sign.CloseSquare q ∷ v) ((λ x. absurd (no_true x)), h)),
       ))))
   expr_free (negation p of le r e) f b v h = subst (λ k. FreeMarks b (k ++ v)) (sym e) ((λ x. absurd (no_true x)), expr_free r f false v h)
   expr_free (minus p of le r e) f b v h = subst (λ k. FreeMarks b (k ++ v)) (sym e) ((λ x. absurd (no_true x)), expr_free r f false v h)

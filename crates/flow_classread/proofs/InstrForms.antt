@@ -19,8 +19,9 @@ use Rattle.flow_parse.proofs.Failing.{Inhabited}
 use Rattle.flow_parse.proofs.Leaves.{Turns}
 use Rattle.flow_tree.specs.Tree.{ExprTree}
 use Rattle.flow_class.specs.Classes.{InstrTree, SetInstr, EffectInstr, NewInstr, ActInstr, DropInstr, LastTree, GotoLast, PassLast, TestLast, ChooseLast, ReturnLast, ThrowLast}
-use Rattle.flow_classprint.specs.ClassGrammar.{said, number_at, place_at, IsNumber, WholeRule, VarPathRule, CalleeRule, LocalsRule, one, AssignRule, assign, InstrRule, set, effect, new, act, drop, LastRule, goto, pass, test, choose, return, throw}
-use Rattle.flow_classread.specs.Parts.{Behind, Closed, Both, NumberPart, Target, SlottedPart, Ended, Test, Args, Assignment, Act, New, DropLocals, act_tree, ActInstrPart, NewInstrPart, DropInstrPart, Branch, branch_tree, BranchPart, InstrToken}
+use Rattle.flow_classprint.specs.declared.version.Version.{Version}
+use Rattle.flow_classprint.specs.ClassGrammar.{said, number_at, place_at, IsNumber, WholeRule, VarPathRule, CalleeRule, LocalsRule, one, AssignRule, assign, InstrRule, set, effect, new, act, drop, ReturnedRule, LastRule, goto, pass, test, choose, return, throw}
+use Rattle.flow_classread.specs.Parts.{Behind, Closed, Both, NumberPart, Target, SlottedPart, Ended, Test, Args, Assignment, Act, New, DropLocals, act_tree, ActInstrPart, NewInstrPart, DropInstrPart, Branch, branch_tree, BranchPart, Returned, InstrToken}
 use Rattle.flow_exprs.proofs.Goes.{nowhere}
 use Rattle.flow_class.specs.declared.class.Slotted.TheVariants.{Local}
 use Rattle.flow_classread.proofs.Combine.{some_behind, some_closed, some_both, some_mapped}
@@ -61,7 +62,7 @@ last_kind_back Choose = refl
 last_kind_back Return = refl
 last_kind_back Throw = refl
 
-abbrev pub last_kind : {w : List Marked} {l : LastTree} → LastRule w l → LastKind
+abbrev pub last_kind : {v : Version} {w : List Marked} {l : LastTree} → LastRule v w l → LastKind
 last_kind (goto p q r h) = Goto
 last_kind (pass p q r h) = Pass
 last_kind (test p q r s t u v w of h hy hn e) = Tests
@@ -69,7 +70,7 @@ last_kind (choose p q r h) = Choose
 last_kind (return p q of h e) = Return
 last_kind (throw p q of h e) = Throw
 
-last_looks : {w : List Marked} {l : LastTree} (z : List Marked) (t : Token) → (r : LastRule w l) → Looks (Some t) (w ++ z) → last_token (last_kind r) ≡ t
+last_looks : {v : Version} {w : List Marked} {l : LastTree} (z : List Marked) (t : Token) → (r : LastRule v w l) → Looks (Some t) (w ++ z) → last_token (last_kind r) ≡ t
 last_looks z t (goto p q r h) l = l
 last_looks z t (pass p q r h) l = l
 last_looks z t (test p q r s u v w x of h hy hn e) l = subst (λ k. Looks (Some t) (k ++ z)) e l
@@ -77,7 +78,7 @@ last_looks z t (choose p q r h) l = l
 last_looks z t (return p q of h e) l = subst (λ k. Looks (Some t) (k ++ z)) e l
 last_looks z t (throw p q of h e) l = subst (λ k. Looks (Some t) (k ++ z)) e l
 
-pub last_starts : {w : List Marked} {l : LastTree} → (r : LastRule w l) → Starts (λ t. t ≡ last_token (last_kind r)) w
+pub last_starts : {v : Version} {w : List Marked} {l : LastTree} → (r : LastRule v w l) → Starts (λ t. t ≡ last_token (last_kind r)) w
 last_starts (goto p q r h) = refl
 last_starts (pass p q r h) = refl
 last_starts (test p q r s u v w x of h hy hn e) = subst (Starts (λ t. t ≡ last_token Tests)) (sym e) refl
@@ -85,26 +86,27 @@ last_starts (choose p q r h) = refl
 last_starts (return p q of h e) = subst (Starts (λ t. t ≡ last_token Return)) (sym e) refl
 last_starts (throw p q of h e) = subst (Starts (λ t. t ≡ last_token Throw)) (sym e) refl
 
-abbrev pub LastForm : LastKind → List Marked → LastTree → Type 0
-LastForm Goto = Formed (Behind (token.Name (codes "goto")) Target) GotoLast
-LastForm Pass = Formed (Behind (token.Name (codes "pass")) Target) PassLast
-LastForm Tests = Formed (Behind (token.Name (codes "test")) BranchPart) (λ x. x)
-LastForm Choose = Formed (Behind (token.Word word.Choose) Target) ChooseLast
-LastForm Return = Formed (Behind (token.Word word.Return) Ended) (λ e. ReturnLast (Some e))
-LastForm Throw = Formed (Behind (token.Word word.Throw) Ended) ThrowLast
+abbrev pub LastForm : Version → LastKind → List Marked → LastTree → Type 0
+LastForm v Goto = Formed (Behind (token.Name (codes "goto")) Target) GotoLast
+LastForm v Pass = Formed (Behind (token.Name (codes "pass")) Target) PassLast
+LastForm v Tests = Formed (Behind (token.Name (codes "test")) BranchPart) (λ x. x)
+LastForm v Choose = Formed (Behind (token.Word word.Choose) Target) ChooseLast
+LastForm v Return = Formed (Behind (token.Word word.Return) (Returned v)) ReturnLast
+LastForm v Throw = Formed (Behind (token.Word word.Throw) Ended) ThrowLast
 
 number_behind : (x : Token) (p q r : Place) (n : ℕ) → IsNumber n → Behind x Target (opens [] x p ∷ number_at n q ∷ sign_at sign.Semicolon r ∷ []) n
 number_behind x p q r n h = (p, number_at n q ∷ sign_at sign.Semicolon r ∷ [], (r, number_at n q ∷ [], (q, h, refl), refl), refl)
 
-ended_behind : (x : Token) (p q : Place) (of w : List Marked) (e : ExprTree) → WholeRule of e → w ≡ opens [] x p ∷ (of ++ sign_at sign.Semicolon q ∷ []) → Behind x Ended w e
-ended_behind x p q of w e h g = (p, of ++ sign_at sign.Semicolon q ∷ [], (q, of, h, refl), g)
+ended_behind : {A : Type 0} (R : List Marked → A → Type 0) (x : Token) (p q : Place) (of w : List Marked) (a : A) → R of a → w ≡ opens [] x p ∷ (of ++ sign_at sign.Semicolon q ∷ [])
+    → Behind x (Closed (token.Sign sign.Semicolon) R) w a
+ended_behind R x p q of w a h g = (p, of ++ sign_at sign.Semicolon q ∷ [], (q, of, h, refl), g)
 
-last_form : {w : List Marked} {l : LastTree} → (r : LastRule w l) → LastForm (last_kind r) w l
+last_form : {v : Version} {w : List Marked} {l : LastTree} → (r : LastRule v w l) → LastForm v (last_kind r) w l
 last_form (goto {b} p q r h) = record { tree = b; rule = number_behind (token.Name (codes "goto")) p q r b h; is = refl }
 last_form (pass {b} p q r h) = record { tree = b; rule = number_behind (token.Name (codes "pass")) p q r b h; is = refl }
 last_form (choose {g} p q r h) = record { tree = g; rule = number_behind (token.Word word.Choose) p q r g h; is = refl }
-last_form {w} (return {e} p q of h g) = record { tree = e; rule = ended_behind (token.Word word.Return) p q of w e h g; is = refl }
-last_form {w} (throw {e} p q of h g) = record { tree = e; rule = ended_behind (token.Word word.Throw) p q of w e h g; is = refl }
+last_form {v} {w} (return {e} p q of h g) = record { tree = e; rule = ended_behind (ReturnedRule v) (token.Word word.Return) p q of w e h g; is = refl }
+last_form {v} {w} (throw {e} p q of h g) = record { tree = e; rule = ended_behind WholeRule (token.Word word.Throw) p q of w e h g; is = refl }
 last_form (test {e} {y} {n} p q r s t u v x of h hy hn g) =
     let end = number_at n v ∷ sign_at sign.Semicolon x ∷ [] in
     let other = number_at y t ∷ word_at word.Else u ∷ end in
@@ -141,10 +143,10 @@ last_form (test {e} {y} {n} p q r s t u v x of h hy hn g) =
       is = refl;
     }
 
-last_form_is : (k : LastKind) {w : List Marked} {l : LastTree} (z : List Marked) → LastRule w l → Looks (Some (last_token k)) (w ++ z) → LastForm k w l
-last_form_is k {w} {l} z r h =
+last_form_is : {v : Version} (k : LastKind) {w : List Marked} {l : LastTree} (z : List Marked) → LastRule v w l → Looks (Some (last_token k)) (w ++ z) → LastForm v k w l
+last_form_is {v} k {w} {l} z r h =
     let e : last_kind r ≡ k = sym (last_kind_back (last_kind r)) ∙ ap last_kind_of (last_looks z (last_token k) r h) ∙ last_kind_back k in
-    subst (λ j. LastForm j w l) e (last_form r)
+    subst (λ j. LastForm v j w l) e (last_form r)
 
 pub back_of : {A B : Type 0} {V : List Marked → A → Type 0} {U : List Marked → B → Type 0} {h : B → A} {w : List Marked} {a : A} (z : List Marked) → Formed U h w a → Back V Any U Any h w z a
 back_of z f = record { tree = f.tree; rule = f.rule; is = f.is; follows = tt }
@@ -152,47 +154,47 @@ back_of z f = record { tree = f.tree; rule = f.rule; is = f.is; follows = tt }
 number_whole : {x : Token} {w : List Marked} {n : ℕ} → (r : Behind x Target w n) → w ≡ opens [] x r.0 ∷ number_at n r.2.2.0 ∷ sign_at sign.Semicolon r.2.0 ∷ []
 number_whole r = then_same r.3 (before_same _ r.2.3 r.2.2.2)
 
-ended_whole : {x : Token} {w : List Marked} {e : ExprTree} → (r : Behind x Ended w e) → w ≡ opens [] x r.0 ∷ (r.2.1 ++ sign_at sign.Semicolon r.2.0 ∷ [])
-ended_whole r = then_same r.3 r.2.3
+ended_whole : {A : Type 0} (R : List Marked → A → Type 0) {x : Token} {w : List Marked} {a : A} → (r : Behind x (Closed (token.Sign sign.Semicolon) R) w a) → w ≡ opens [] x r.0 ∷ (r.2.1 ++ sign_at sign.Semicolon r.2.0 ∷ [])
+ended_whole R r = then_same r.3 r.2.3
 
-pub goto_turns : Turns LastRule Any (Behind (token.Name (codes "goto")) Target) Any GotoLast (Some (token.Name (codes "goto")))
-goto_turns = record {
+pub goto_turns : (v : Version) → Turns (LastRule v) Any (Behind (token.Name (codes "goto")) Target) Any GotoLast (Some (token.Name (codes "goto")))
+goto_turns v = record {
   back = λ w z b r f l. back_of z (last_form_is Goto z r l);
-  forth = λ w n r. subst (λ k. LastRule k (GotoLast n)) (sym (number_whole r)) (goto r.0 r.2.2.0 r.2.0 r.2.2.1);
+  forth = λ w n r. subst (λ k. LastRule v k (GotoLast n)) (sym (number_whole r)) (goto r.0 r.2.2.0 r.2.0 r.2.2.1);
 }
 
-pub pass_turns : Turns LastRule Any (Behind (token.Name (codes "pass")) Target) Any PassLast (Some (token.Name (codes "pass")))
-pass_turns = record {
+pub pass_turns : (v : Version) → Turns (LastRule v) Any (Behind (token.Name (codes "pass")) Target) Any PassLast (Some (token.Name (codes "pass")))
+pass_turns v = record {
   back = λ w z b r f l. back_of z (last_form_is Pass z r l);
-  forth = λ w n r. subst (λ k. LastRule k (PassLast n)) (sym (number_whole r)) (pass r.0 r.2.2.0 r.2.0 r.2.2.1);
+  forth = λ w n r. subst (λ k. LastRule v k (PassLast n)) (sym (number_whole r)) (pass r.0 r.2.2.0 r.2.0 r.2.2.1);
 }
 
-pub choose_turns : Turns LastRule Any (Behind (token.Word word.Choose) Target) Any ChooseLast (Some (token.Word word.Choose))
-choose_turns = record {
+pub choose_turns : (v : Version) → Turns (LastRule v) Any (Behind (token.Word word.Choose) Target) Any ChooseLast (Some (token.Word word.Choose))
+choose_turns v = record {
   back = λ w z b r f l. back_of z (last_form_is Choose z r l);
-  forth = λ w n r. subst (λ k. LastRule k (ChooseLast n)) (sym (number_whole r)) (choose r.0 r.2.2.0 r.2.0 r.2.2.1);
+  forth = λ w n r. subst (λ k. LastRule v k (ChooseLast n)) (sym (number_whole r)) (choose r.0 r.2.2.0 r.2.0 r.2.2.1);
 }
 
-pub return_turns : Turns LastRule Any (Behind (token.Word word.Return) Ended) Any (λ e. ReturnLast (Some e)) (Some (token.Word word.Return))
-return_turns = record { back = λ w z b r f l. back_of z (last_form_is Return z r l); forth = λ w e r. return r.0 r.2.0 r.2.1 r.2.2 (ended_whole r) }
+pub return_turns : (v : Version) → Turns (LastRule v) Any (Behind (token.Word word.Return) (Returned v)) Any ReturnLast (Some (token.Word word.Return))
+return_turns v = record { back = λ w z b r f l. back_of z (last_form_is Return z r l); forth = λ w e r. return r.0 r.2.0 r.2.1 r.2.2 (ended_whole (ReturnedRule v) r) }
 
-pub throw_turns : Turns LastRule Any (Behind (token.Word word.Throw) Ended) Any ThrowLast (Some (token.Word word.Throw))
-throw_turns = record { back = λ w z b r f l. back_of z (last_form_is Throw z r l); forth = λ w e r. throw r.0 r.2.0 r.2.1 r.2.2 (ended_whole r) }
+pub throw_turns : (v : Version) → Turns (LastRule v) Any (Behind (token.Word word.Throw) Ended) Any ThrowLast (Some (token.Word word.Throw))
+throw_turns v = record { back = λ w z b r f l. back_of z (last_form_is Throw z r l); forth = λ w e r. throw r.0 r.2.0 r.2.1 r.2.2 (ended_whole WholeRule r) }
 
-pub test_turns : Turns LastRule Any (Behind (token.Name (codes "test")) BranchPart) Any (λ x. x) (Some (token.Name (codes "test")))
-test_turns = record {
+pub test_turns : (v : Version) → Turns (LastRule v) Any (Behind (token.Name (codes "test")) BranchPart) Any (λ x. x) (Some (token.Name (codes "test")))
+test_turns v = record {
   back = λ w z b r f l. back_of z (last_form_is Tests z r l);
   forth = λ w l r.
       let x = r.2.0 in
       let b = r.2.1 in
       let c = b.back.2 in
       let d = c.back.2 in
-      subst (LastRule w) (sym r.2.2) (test r.0 b.front.0 b.front.2.0 b.back.0 c.front.0 c.back.0 d.2.0 d.0 b.front.2.1 b.front.2.2 c.front.1 d.2.1
+      subst (LastRule v w) (sym r.2.2) (test r.0 b.front.0 b.front.2.0 b.back.0 c.front.0 c.back.0 d.2.0 d.0 b.front.2.1 b.front.2.2 c.front.1 d.2.1
       (then_same r.3 (round_then _ _ b.is b.front.3 b.front.2.3 (then_same b.back.3 (one_then c.is c.front.2 (then_same c.back.3 (before_same _ d.3 d.2.2)))))));
 }
 
 -- where none of the words stands
-pub throw_fails : {w : List Marked} {l : LastTree} (z : List Marked) (o : Option Token) → LastRule w l → Looks o (w ++ z) → ((k : LastKind) → o ≡ Some (last_token k) → ⊥) → ⊥
+pub throw_fails : {v : Version} {w : List Marked} {l : LastTree} (z : List Marked) (o : Option Token) → LastRule v w l → Looks o (w ++ z) → ((k : LastKind) → o ≡ Some (last_token k) → ⊥) → ⊥
 throw_fails {w} z o r h f = f (last_kind r) (none_is w z o (last_starts r) h)
   where
     none_is : {x : Token} (w z : List Marked) (o : Option Token) → Starts (λ t. t ≡ x) w → Looks o (w ++ z) → o ≡ Some x
@@ -375,20 +377,20 @@ drop_else o a b c d = record {
   forth = λ w i r. (let t = drop_turns in t.forth w i r);
 }
 
-throw_of : {w : List Marked} {l : LastTree} (o : Option Token) → (r : LastRule w l) → o ≡ Some (last_token (last_kind r)) → (o ≡ Some (last_token Goto) → ⊥) → (o ≡ Some (last_token Pass) → ⊥)
-    → (o ≡ Some (last_token Tests) → ⊥) → (o ≡ Some (last_token Choose) → ⊥) → (o ≡ Some (last_token Return) → ⊥) → (k : LastKind) → last_kind r ≡ k → LastForm Throw w l
+throw_of : {v : Version} {w : List Marked} {l : LastTree} (o : Option Token) → (r : LastRule v w l) → o ≡ Some (last_token (last_kind r)) → (o ≡ Some (last_token Goto) → ⊥) → (o ≡ Some (last_token Pass) → ⊥)
+    → (o ≡ Some (last_token Tests) → ⊥) → (o ≡ Some (last_token Choose) → ⊥) → (o ≡ Some (last_token Return) → ⊥) → (k : LastKind) → last_kind r ≡ k → LastForm v Throw w l
 throw_of o r e a b c d f Goto h = absurd (a (e ∙ ap (λ k. Some (last_token k)) h))
 throw_of o r e a b c d f Pass h = absurd (b (e ∙ ap (λ k. Some (last_token k)) h))
 throw_of o r e a b c d f Tests h = absurd (c (e ∙ ap (λ k. Some (last_token k)) h))
 throw_of o r e a b c d f Choose h = absurd (d (e ∙ ap (λ k. Some (last_token k)) h))
 throw_of o r e a b c d f Return h = absurd (f (e ∙ ap (λ k. Some (last_token k)) h))
-throw_of {w} {l} o r e a b c d f Throw h = subst (λ k. LastForm k w l) h (last_form r)
+throw_of {v} {w} {l} o r e a b c d f Throw h = subst (λ k. LastForm v k w l) h (last_form r)
 
-pub throw_else : (o : Option Token) → (o ≡ Some (token.Name (codes "goto")) → ⊥) → (o ≡ Some (token.Name (codes "pass")) → ⊥) → (o ≡ Some (token.Name (codes "test")) → ⊥)
-    → (o ≡ Some (token.Word word.Choose) → ⊥) → (o ≡ Some (token.Word word.Return) → ⊥) → Turns LastRule Any (Behind (token.Word word.Throw) Ended) Any ThrowLast o
-throw_else o a b c d e = record {
+pub throw_else : (v : Version) (o : Option Token) → (o ≡ Some (token.Name (codes "goto")) → ⊥) → (o ≡ Some (token.Name (codes "pass")) → ⊥) → (o ≡ Some (token.Name (codes "test")) → ⊥)
+    → (o ≡ Some (token.Word word.Choose) → ⊥) → (o ≡ Some (token.Word word.Return) → ⊥) → Turns (LastRule v) Any (Behind (token.Word word.Throw) Ended) Any ThrowLast o
+throw_else v o a b c d e = record {
   back = λ w z i r f l. back_of z (throw_of o r (starts_looks_is w z o (last_starts r) l) a b c d e (last_kind r) refl);
-  forth = λ w x r. (let t = throw_turns in t.forth w x r);
+  forth = λ w x r. (let t = throw_turns v in t.forth w x r);
 }
 
 -- some of each

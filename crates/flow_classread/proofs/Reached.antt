@@ -43,7 +43,7 @@ no_text_by_tokens bytes fault.TooLarge short a = a
 
 -- tokens that are no class text
 pub no_text : (bytes : List ℕ) (t : Tokens) (e : SourceFault) → length bytes ≤ CLASS_BYTES → Lexes bytes t.spots.items t.end
-    → Fails OF_CLASS_TEXT (TextRule 1) AtEnd t 0 e → RawAnswer bytes (Err (form_of e))
+    → Fails OF_CLASS_TEXT TextRule AtEnd t 0 e → RawAnswer bytes (Err (form_of e))
 no_text bytes t (Refused (S n) at) short l f = form t short l (fails_in t 2 at (omega arith) f.1)
 no_text bytes t (Refused (L n) at) short l f = form t short l (fails_in t n at f.1 f.2)
 no_text bytes t (Refused (K n) at) short l f = absurd f

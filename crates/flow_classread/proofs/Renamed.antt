@@ -4,11 +4,12 @@ use Rattle.flow_base.specs.declared.place.Place.{Place}
 use Rattle.flow_tree.specs.declared.token.Token.{Token}
 use Rattle.flow_tree.specs.declared.token.Token.TheVariants as token
 use Rattle.flow_tree.specs.declared.token.Word.TheVariants as word
+use Rattle.flow_tree.specs.declared.token.Sign.{Sign}
 use Rattle.flow_tree.specs.declared.token.Sign.TheVariants as sign
 use Rattle.flow_tree.specs.declared.ty.Ident.{Ident}
-use Rattle.flow_tree.specs.Tree.{ByName, ExprTree, ExprTrees, IntExpr, TextExpr, BoolExpr, VoidExpr, VarExpr, CallExpr, FieldExpr, MethodExpr, NotExpr, NegExpr, BinaryExpr, ParenExpr, NoExprs, MoreExprs}
+use Rattle.flow_tree.specs.Tree.{ByName, indexed, ExprTree, ExprTrees, IntExpr, TextExpr, BoolExpr, VoidExpr, VarExpr, CallExpr, FieldExpr, MethodExpr, NotExpr, NegExpr, BinaryExpr, ParenExpr, NoExprs, MoreExprs}
 use Rattle.flow_tree.specs.GrammarToken.{Part, Node, Marked, opens, begin}
-use Rattle.flow_tree.specs.Grammar.{sign_at, name_at, node_sign, node_word, node_name, in_round, op_sign, ExprRule, number, text, truth, falsehood, void, variable, call, paren, field, method, negation, minus, binary, ArgsRule, no_args, some_args, MoreArgsRule, end_args, more_args}
+use Rattle.flow_tree.specs.Grammar.{sign_at, name_at, node_sign, node_word, node_name, in_round, op_sign, ExprRule, number, text, truth, falsehood, void, variable, call, paren, field, method, index, negation, minus, binary, ArgsRule, no_args, some_args, MoreArgsRule, end_args, more_args}
 
 -- the same tokens at the same places, but for their names
 abbrev pub LikeToken : Token → Token → Type 0
@@ -112,15 +113,15 @@ alone : (ps : List Part) (t : Token) (p : Place) (w : List Marked) → (IsName t
 alone ps t p w f h = let r = step ps t p [] w f h in r.1 ∙ ap (λ z. opens ps t p ∷ z) (none_left r.0 r.2)
 
 -- behind a part, a bracket
-record Shut (xs : List Marked) (q : Place) (w : List Marked) : Type 0 where
+record Shut (s : Sign) (xs : List Marked) (q : Place) (w : List Marked) : Type 0 where
   of : List Marked
-  is : w ≡ of ++ sign_at sign.CloseRound q ∷ []
+  is : w ≡ of ++ sign_at s q ∷ []
   alike : Alike xs of
 
-shut : (xs : List Marked) (q : Place) (w : List Marked) → Alike (xs ++ sign_at sign.CloseRound q ∷ []) w → Shut xs q w
-shut xs q w h =
-    let r = parted xs (sign_at sign.CloseRound q ∷ []) w h in
-    record { of = r.left; is = r.is ∙ ap (λ z. r.left ++ z) (alone [] (token.Sign sign.CloseRound) q r.right (λ x. x) r.back); alike = r.front }
+shut : (s : Sign) (xs : List Marked) (q : Place) (w : List Marked) → Alike (xs ++ sign_at s q ∷ []) w → Shut s xs q w
+shut s xs q w h =
+    let r = parted xs (sign_at s q ∷ []) w h in
+    record { of = r.left; is = r.is ∙ ap (λ z. r.left ++ z) (alone [] (token.Sign s) q r.right (λ x. x) r.back); alike = r.front }
 
 abbrev pub Other : ℕ → ℕ → List Marked → Type 0
 Other k d w = (e : ExprTree) × ExprRule k d w e
@@ -148,12 +149,12 @@ mutual
   renamed {d = d} (call f p q args r e) w h =
       let a = step_name (Node d ∷ []) f (in_round p args q []) w (subst (λ z. Alike z w) e h) in
       let b = step [] (token.Sign sign.OpenRound) p (args ++ sign_at sign.CloseRound q ∷ []) a.1 (λ x. x) a.3 in
-      let c = shut args q b.0 b.2 in
+      let c = shut sign.CloseRound args q b.0 b.2 in
       let s = renamed_args r c.of c.alike in
       (CallExpr a.0 s.0, call a.0 p q c.of s.1 (a.2 ∙ ap (λ z. node_name d a.0 ∷ z) (b.1 ∙ ap (λ z. sign_at sign.OpenRound p ∷ z) c.is)))
   renamed {d = d} (paren p q of r e) w h =
       let a = step (Node d ∷ []) (token.Sign sign.OpenRound) p (of ++ sign_at sign.CloseRound q ∷ []) w (λ x. x) (subst (λ z. Alike z w) e h) in
-      let c = shut of q a.0 a.2 in
+      let c = shut sign.CloseRound of q a.0 a.2 in
       let s = renamed r c.of c.alike in
       (ParenExpr s.0, paren p q c.of s.1 (a.1 ∙ ap (λ z. node_sign d sign.OpenRound p ∷ z) c.is))
   renamed {d = d} (field p x of r e) w h =
@@ -172,13 +173,25 @@ mutual
       let c = step [] (token.Sign sign.Dot) p (name_at f ∷ in_round q args r []) a.right (λ x. x) a.back in
       let n = step_name [] f (in_round q args r []) c.0 c.2 in
       let o = step [] (token.Sign sign.OpenRound) q (args ++ sign_at sign.CloseRound r ∷ []) n.1 (λ x. x) n.3 in
-      let g = shut args r o.0 o.2 in
+      let g = shut sign.CloseRound args r o.0 o.2 in
       let s = renamed t b.of b.alike in
       let v = renamed_args u g.of g.alike in (
         MethodExpr s.0 (ByName n.0) v.0,
         method p q r n.0 b.of g.of s.1 v.1
             (a.is ∙ ap (λ z. z ++ a.right) b.is ∙ ap (λ z. begin (Node d) b.of ++ z)
             (c.1 ∙ ap (λ z. sign_at sign.Dot p ∷ z) (n.2 ∙ ap (λ z. name_at n.0 ∷ z) (o.1 ∙ ap (λ z. sign_at sign.OpenRound q ∷ z) g.is)))),
+      )
+  renamed {d = d} (index p q of at t i e) w h =
+      let a = parted (begin (Node d) of) (sign_at sign.OpenSquare p ∷ (at ++ sign_at sign.CloseSquare q ∷ [])) w (subst (λ z. Alike z w) e h) in
+      let b = begun (Node d) of a.left a.front in
+      let c = step [] (token.Sign sign.OpenSquare) p (at ++ sign_at sign.CloseSquare q ∷ []) a.right (λ x. x) a.back in
+      let g = shut sign.CloseSquare at q c.0 c.2 in
+      let s = renamed t b.of b.alike in
+      let u = renamed i g.of g.alike in (
+        indexed s.0 u.0,
+        index p q b.of g.of s.1 u.1
+            (a.is ∙ ap (λ z. z ++ a.right) b.is ∙ ap (λ z. begin (Node d) b.of ++ z)
+            (c.1 ∙ ap (λ z. sign_at sign.OpenSquare p ∷ z) g.is)),
       )
   renamed {d = d} (negation p of le r e) w h =
       let a = step (Node d ∷ []) (token.Sign sign.Not) p of w (λ x. x) (subst (λ z. Alike z w) e h) in

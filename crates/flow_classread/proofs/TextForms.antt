@@ -1,5 +1,5 @@
 -- Whole class texts: records and functions in any order, and then classes.
-use Rattle.std.proofs.Common.{◌≡◌, ℕ, zero, suc, ◌+◌, ◌≤◌, ◌<◌, false, List, [], ◌∷◌, ◌++◌, length, refl, sym, ap, ◌∙◌, subst, arith, append_assoc, ◌⊎◌, inl, inr}
+use Rattle.std.proofs.Common.{◌≡◌, ℕ, zero, suc, ◌+◌, ◌≤◌, ◌<◌, List, [], ◌∷◌, ◌++◌, length, refl, sym, ap, ◌∙◌, subst, arith, append_assoc, ◌⊎◌, inl, inr}
 use Rattle.std.specs.Prelude.{codes, drop}
 use Rattle.std.proofs.lemmas.List.{append-nil}
 use Rattle.std.specs.declared.option.Option.{Option}
@@ -30,14 +30,16 @@ use Rattle.flow_tree.specs.Decls.{RecordTree, RoutineTree}
 use Rattle.flow_tree.specs.GrammarToken.{Part, Node, begin, AllInLimitsOf, GoodOf}
 use Rattle.flow_tree.specs.Grammar.{TypeRule, int_type, bool_type, string_type, void_type, error_type, named_type, wrapped_type, wrapper_word, node_name}
 use Rattle.flow_tree.specs.GrammarStmt.{no_stmts}
-use Rattle.flow_tree.specs.GrammarDecl.{RoutineRule, routine, no_params, record_decl, function_decl, fields}
+use Rattle.flow_tree.specs.declared.decl.RoutineKind.{RoutineKind}
+use Rattle.flow_tree.specs.GrammarDecl.{RoutineRule, routine, no_params, function, fields}
 use Rattle.flow_exprs.proofs.Goes.{nowhere}
 use Rattle.flow_parse.specs.Failing.{Sees, Only, Never, Stops}
 use Rattle.flow_parse.specs.Follow.{AtEnd}
 use Rattle.flow_parse.specs.Parts.{Marks, Record, Function}
 use Rattle.flow_parse.proofs.Begins.{type_starts}
 use Rattle.flow_class.specs.Classes.{ClassTree}
-use Rattle.flow_classprint.specs.ClassGrammar.{said, HeadsRule, no_heads, more_records, more_functions, RecordRule, record_rule, FunctionRule, function_rule, ClassRule, class, ClassesRule, no_classes, more_classes}
+use Rattle.flow_classprint.specs.declared.version.Version.{Version}
+use Rattle.flow_classprint.specs.ClassGrammar.{functions_of, said, HeadsRule, no_heads, more_records, more_functions, HeadRecordRule, record_rule, HeadFunctionRule, function_rule, ClassRule, class, ClassesRule, no_classes, more_classes}
 use Rattle.flow_classread.specs.Parts.{Both, Heads}
 use Rattle.flow_classread.proofs.ClassForms.{AfterClass, some_after_returns, class_turns, class_tree}
 
@@ -114,45 +116,45 @@ narrow_far {V = V} {FV = FV} {U = U} {FU = FU} {h = h} {at = at} spots m back fo
 abbrev pub TextTree : Type 0
 TextTree = (List RecordTree × List RoutineTree) × List ClassTree
 
-abbrev pub Things : List Marked → TextTree → Type 0
-Things = Both Heads ClassesRule
+abbrev pub Things : Version → List Marked → TextTree → Type 0
+Things v = Both (Heads v) (ClassesRule v)
 
-pub some_things : Inhabited Things
-some_things = record { marked = []; tree = (([], []), []); rule = record { first = []; rest = []; is = refl; front = no_heads; back = no_classes } }
+pub some_things : (v : Version) → Inhabited (Things v)
+some_things v = record { marked = []; tree = (([], []), []); rule = record { first = []; rest = []; is = refl; front = no_heads; back = no_classes } }
 
 struct_starts : {w : List Marked} {r : RecordTree} → Record w r → Starts (λ t. t ≡ token.Word word.Struct) w
-struct_starts (record_decl (fields at p q r x xs f e)) = subst (Starts (λ t. t ≡ token.Word word.Struct)) (sym e) refl
+struct_starts (fields at p q r x xs f e) = subst (Starts (λ t. t ≡ token.Word word.Struct)) (sym e) refl
 
 starts_begin : (P : Token → Type 0) (w : List Marked) → Starts P w → Starts P (begin (Node 1) w)
 starts_begin P [] h = h
 starts_begin P (x ∷ w) h = h
 
-function_starts : {w : List Marked} {f : RoutineTree} → Function w f → Starts TypeToken w
-function_starts (function_decl at of xs t r e s) = subst (Starts TypeToken) (sym e) (starts_append TypeToken of xs (type_starts t))
+function_starts : {home : RoutineKind} {w : List Marked} {f : RoutineTree} → Function home w f → Starts TypeToken w
+function_starts (function at of xs t r e s) = subst (Starts TypeToken) (sym e) (starts_append TypeToken of xs (type_starts t))
 
-record_first : {w : List Marked} {r : RecordTree} → RecordRule w r → Starts (λ t. t ≡ token.Word word.Struct) w
+record_first : {w : List Marked} {r : RecordTree} → HeadRecordRule w r → Starts (λ t. t ≡ token.Word word.Struct) w
 record_first (record_rule of d) = starts_begin (λ t. t ≡ token.Word word.Struct) of (struct_starts d)
 
-function_first : {w : List Marked} {f : RoutineTree} → FunctionRule w f → Starts TypeToken w
+function_first : {v : Version} {w : List Marked} {f : RoutineTree} → HeadFunctionRule v w f → Starts TypeToken w
 function_first (function_rule of d) = starts_begin TypeToken of (function_starts d)
 
-classes_first : {w : List Marked} {cs : List ClassTree} → ClassesRule w cs → (w ≡ []) ⊎ Starts (λ t. t ≡ token.Name (codes "class")) w
+classes_first : {version : Version} {w : List Marked} {cs : List ClassTree} → ClassesRule version w cs → (w ≡ []) ⊎ Starts (λ t. t ≡ token.Name (codes "class")) w
 classes_first no_classes = inl refl
 classes_first (more_classes first rest (class p q r s u v k of slots locals blocks groups ht hp hs hl hb hg e) cs f) =
     inr (subst (Starts (λ t. t ≡ token.Name (codes "class"))) (sym f)
     (starts_append (λ t. t ≡ token.Name (codes "class")) first rest (subst (Starts (λ t. t ≡ token.Name (codes "class"))) (sym e) refl)))
 
-record_marks : {w : List Marked} {r : RecordTree} → RecordRule w r → Marks (Node 1) Record w r
+record_marks : {w : List Marked} {r : RecordTree} → HeadRecordRule w r → Marks (Node 1) Record w r
 record_marks (record_rule of d) = (of, d, refl)
 
-marks_record : (w : List Marked) (r : RecordTree) → Marks (Node 1) Record w r → RecordRule w r
-marks_record w r m = subst (λ k. RecordRule k r) (sym m.2) (record_rule m.0 m.1)
+marks_record : (w : List Marked) (r : RecordTree) → Marks (Node 1) Record w r → HeadRecordRule w r
+marks_record w r m = subst (λ k. HeadRecordRule k r) (sym m.2) (record_rule m.0 m.1)
 
-function_marks : {w : List Marked} {f : RoutineTree} → FunctionRule w f → Marks (Node 1) Function w f
+function_marks : {v : Version} {w : List Marked} {f : RoutineTree} → HeadFunctionRule v w f → Marks (Node 1) (Function (functions_of v)) w f
 function_marks (function_rule of d) = (of, d, refl)
 
-marks_function : (w : List Marked) (f : RoutineTree) → Marks (Node 1) Function w f → FunctionRule w f
-marks_function w f m = subst (λ k. FunctionRule k f) (sym m.2) (function_rule m.0 m.1)
+marks_function : (v : Version) (w : List Marked) (f : RoutineTree) → Marks (Node 1) (Function (functions_of v)) w f → HeadFunctionRule v w f
+marks_function v w f m = subst (λ k. HeadFunctionRule v k f) (sym m.2) (function_rule m.0 m.1)
 
 abbrev pub with_record : RecordTree × TextTree → TextTree
 with_record y = ((y.0 ∷ y.1.0.0, y.1.0.1), y.1.1)
@@ -160,14 +162,14 @@ with_record y = ((y.0 ∷ y.1.0.0, y.1.0.1), y.1.1)
 abbrev pub with_function : RoutineTree × TextTree → TextTree
 with_function y = ((y.1.0.0, y.0 ∷ y.1.0.1), y.1.1)
 
-abbrev pub RecordThings : List Marked → RecordTree × TextTree → Type 0
-RecordThings = Both (Marks (Node 1) Record) Things
+abbrev pub RecordThings : Version → List Marked → RecordTree × TextTree → Type 0
+RecordThings v = Both (Marks (Node 1) Record) (Things v)
 
-abbrev pub FunctionThings : List Marked → RoutineTree × TextTree → Type 0
-FunctionThings = Both (Marks (Node 1) Function) Things
+abbrev pub FunctionThings : Version → List Marked → RoutineTree × TextTree → Type 0
+FunctionThings v = Both (Marks (Node 1) (Function (functions_of v))) (Things v)
 
-record_things : (w : List Marked) (y : RecordTree × TextTree) → RecordThings w y → Things w (with_record y)
-record_things w y r =
+record_things : (v : Version) (w : List Marked) (y : RecordTree × TextTree) → RecordThings v w y → Things v w (with_record y)
+record_things v w y r =
     let b = r.back in
     record {
       first = r.first ++ b.first;
@@ -178,29 +180,29 @@ record_things w y r =
       back = b.back;
     }
 
-function_things : (w : List Marked) (y : RoutineTree × TextTree) → FunctionThings w y → Things w (with_function y)
-function_things w y r =
+function_things : (v : Version) (w : List Marked) (y : RoutineTree × TextTree) → FunctionThings v w y → Things v w (with_function y)
+function_things v w y r =
     let b = r.back in
     record {
       first = r.first ++ b.first;
       rest = b.rest;
       is = r.is ∙ ap (λ k. r.first ++ k) b.is ∙ sym (append_assoc r.first b.first b.rest);
       front = more_functions r.first b.first
-          (marks_function r.first y.0 r.front) b.front refl;
+          (marks_function v r.first y.0 r.front) b.front refl;
       back = b.back;
     }
 
 -- the ways in which such a text begins
-data Begin (w : List Marked) (b : TextTree) : Type 0 where
-  with_struct : (y : RecordTree × TextTree) → RecordThings w y → b ≡ with_record y → Begin w b
-  with_type : (y : RoutineTree × TextTree) → FunctionThings w y → b ≡ with_function y → Begin w b
-  with_class : (cs : List ClassTree) → ClassesRule w cs → b ≡ (([], []), cs) → Begin w b
+data Begin (v : Version) (w : List Marked) (b : TextTree) : Type 0 where
+  with_struct : (y : RecordTree × TextTree) → RecordThings v w y → b ≡ with_record y → Begin v w b
+  with_type : (y : RoutineTree × TextTree) → FunctionThings v w y → b ≡ with_function y → Begin v w b
+  with_class : (cs : List ClassTree) → ClassesRule v w cs → b ≡ (([], []), cs) → Begin v w b
 
-begins : (w : List Marked) (b : TextTree) → Things w b → Begin w b
-begins w b r = of r.first r.rest b.0.0 b.0.1 r.front r.is
+begins : (v : Version) (w : List Marked) (b : TextTree) → Things v w b → Begin v w b
+begins v w b r = of r.first r.rest b.0.0 b.0.1 r.front r.is
   where
-    of : (first rest : List Marked) (rs : List RecordTree) (fs : List RoutineTree) → HeadsRule first rs fs → w ≡ first ++ r.rest → Begin w ((rs, fs), b.1)
-    of first rest rs fs no_heads e = with_class b.1 (subst (λ k. ClassesRule k b.1) (sym e) r.back) refl
+    of : (first rest : List Marked) (rs : List RecordTree) (fs : List RoutineTree) → HeadsRule v first rs fs → w ≡ first ++ r.rest → Begin v w ((rs, fs), b.1)
+    of first rest rs fs no_heads e = with_class b.1 (subst (λ k. ClassesRule v k b.1) (sym e) r.back) refl
     of first rest rs fs (more_records {r = x} {rs = xs} one more d h g) e =
         with_struct (x, ((xs, fs), b.1)) (record {
           first = one;
@@ -219,11 +221,11 @@ begins w b r = of r.first r.rest b.0.0 b.0.1 r.front r.is
         }) refl
 
 -- with which token
-things_record : (w : List Marked) (y : RecordTree × TextTree) → RecordThings w y → Starts (λ t. t ≡ token.Word word.Struct) w
-things_record w y r = subst (Starts (λ t. t ≡ token.Word word.Struct)) (sym r.is) (starts_append (λ t. t ≡ token.Word word.Struct) r.first r.rest (record_first (marks_record r.first y.0 r.front)))
+things_record : (v : Version) (w : List Marked) (y : RecordTree × TextTree) → RecordThings v w y → Starts (λ t. t ≡ token.Word word.Struct) w
+things_record v w y r = subst (Starts (λ t. t ≡ token.Word word.Struct)) (sym r.is) (starts_append (λ t. t ≡ token.Word word.Struct) r.first r.rest (record_first (marks_record r.first y.0 r.front)))
 
-things_function : (w : List Marked) (y : RoutineTree × TextTree) → FunctionThings w y → Starts TypeToken w
-things_function w y r = subst (Starts TypeToken) (sym r.is) (starts_append TypeToken r.first r.rest (function_first (marks_function r.first y.0 r.front)))
+things_function : (v : Version) (w : List Marked) (y : RoutineTree × TextTree) → FunctionThings v w y → Starts TypeToken w
+things_function v w y r = subst (Starts TypeToken) (sym r.is) (starts_append TypeToken r.first r.rest (function_first (marks_function v r.first y.0 r.front)))
 
 sees_first : (P : Token → Type 0) (o : Option Token) (w z : List Marked) → Starts P w → Looks o (w ++ z) → (t : Token) × (o ≡ Some t) × P t
 sees_first P o [] z s l = absurd s
@@ -237,13 +239,13 @@ at_end a o t w z f e g l = let k = subst (λ y. Looks o (y ++ z)) e l in let m =
     of None e l = cc
     of (Some x) e l = l
 
-pub struct_turns : Turns Things AtEnd RecordThings AtEnd with_record (Some (token.Word word.Struct))
-struct_turns = record { back = λ w z b r f l. of w z b f l (begins w b r); forth = λ w y r. record_things w y r }
+pub struct_turns : (v : Version) → Turns (Things v) AtEnd (RecordThings v) AtEnd with_record (Some (token.Word word.Struct))
+struct_turns v = record { back = λ w z b r f l. of w z b f l (begins v w b r); forth = λ w y r. record_things v w y r }
   where
-    of : (w z : List Marked) (b : TextTree) → AtEnd b z → Looks (Some (token.Word word.Struct)) (w ++ z) → Begin w b → Back Things AtEnd RecordThings AtEnd with_record w z b
+    of : (w z : List Marked) (b : TextTree) → AtEnd b z → Looks (Some (token.Word word.Struct)) (w ++ z) → Begin v w b → Back (Things v) AtEnd (RecordThings v) AtEnd with_record w z b
     of w z b f l (with_struct y r e) = record { tree = y; rule = r; is = e; follows = f }
     of w z b f l (with_type y r e) =
-        let k = sees_first TypeToken (Some (token.Word word.Struct)) w z (things_function w y r) l in
+        let k = sees_first TypeToken (Some (token.Word word.Struct)) w z (things_function v w y r) l in
         let g : token.Word word.Struct ≡ k.0 = let x = k.1 in cc in
         absurd (subst TypeToken (sym g) k.2)
     of w z b f l (with_class cs r e) = elim (classes_first r) [
@@ -253,28 +255,28 @@ struct_turns = record { back = λ w z b r f l. of w z b f l (begins w b r); fort
           absurd (some_no_word (codes "class") word.Struct (sym (k.1 ∙ ap Some k.2)))
     ]
 
-pub plain_turns : (o : Option Token) (t : Token) → o ≡ Some t → (o ≡ Some (token.Word word.Struct) → ⊥) → (o ≡ Some (token.Name (codes "class")) → ⊥)
-    → Turns Things AtEnd FunctionThings AtEnd with_function o
-plain_turns o t some struct plain = record { back = λ w z b r f l. of w z b f l (begins w b r); forth = λ w y r. function_things w y r }
+pub plain_turns : (v : Version) (o : Option Token) (t : Token) → o ≡ Some t → (o ≡ Some (token.Word word.Struct) → ⊥) → (o ≡ Some (token.Name (codes "class")) → ⊥)
+    → Turns (Things v) AtEnd (FunctionThings v) AtEnd with_function o
+plain_turns v o t some struct plain = record { back = λ w z b r f l. of w z b f l (begins v w b r); forth = λ w y r. function_things v w y r }
   where
-    of : (w z : List Marked) (b : TextTree) → AtEnd b z → Looks o (w ++ z) → Begin w b → Back Things AtEnd FunctionThings AtEnd with_function w z b
+    of : (w z : List Marked) (b : TextTree) → AtEnd b z → Looks o (w ++ z) → Begin v w b → Back (Things v) AtEnd (FunctionThings v) AtEnd with_function w z b
     of w z b f l (with_type y r e) = record { tree = y; rule = r; is = e; follows = f }
-    of w z b f l (with_struct y r e) = let k = sees_first (λ t. t ≡ token.Word word.Struct) o w z (things_record w y r) l in absurd (struct (k.1 ∙ ap Some k.2))
+    of w z b f l (with_struct y r e) = let k = sees_first (λ t. t ≡ token.Word word.Struct) o w z (things_record v w y r) l in absurd (struct (k.1 ∙ ap Some k.2))
     of w z b f l (with_class cs r e) = elim (classes_first r) [
       | inl n ↦ absurd (at_end b o t w z f n some l)
       | inr s ↦ let k = sees_first (λ t. t ≡ token.Name (codes "class")) o w z s l in absurd (plain (k.1 ∙ ap Some k.2))
     ]
 
-pub end_turns : Turns Things AtEnd ClassesRule AtEnd (λ cs. (([], []), cs)) None
-end_turns = record { back = λ w z b r f l. of w z b f l (begins w b r); forth = λ w cs r. record { first = []; rest = w; is = refl; front = no_heads; back = r } }
+pub end_turns : (v : Version) → Turns (Things v) AtEnd (ClassesRule v) AtEnd (λ cs. (([], []), cs)) None
+end_turns v = record { back = λ w z b r f l. of w z b f l (begins v w b r); forth = λ w cs r. record { first = []; rest = w; is = refl; front = no_heads; back = r } }
   where
     none : {A : Type 0} (t : A) → None ≡ Some t → ⊥
     none t e = cc
 
-    of : (w z : List Marked) (b : TextTree) → AtEnd b z → Looks None (w ++ z) → Begin w b → Back Things AtEnd ClassesRule AtEnd (λ cs. (([], []), cs)) w z b
+    of : (w z : List Marked) (b : TextTree) → AtEnd b z → Looks None (w ++ z) → Begin v w b → Back (Things v) AtEnd (ClassesRule v) AtEnd (λ cs. (([], []), cs)) w z b
     of w z b f l (with_class cs r e) = record { tree = cs; rule = r; is = e; follows = f }
-    of w z b f l (with_struct y r e) = let k = sees_first (λ t. t ≡ token.Word word.Struct) None w z (things_record w y r) l in absurd (none k.0 k.1)
-    of w z b f l (with_type y r e) = let k = sees_first TypeToken None w z (things_function w y r) l in absurd (none k.0 k.1)
+    of w z b f l (with_struct y r e) = let k = sees_first (λ t. t ≡ token.Word word.Struct) None w z (things_record v w y r) l in absurd (none k.0 k.1)
+    of w z b f l (with_type y r e) = let k = sees_first TypeToken None w z (things_function v w y r) l in absurd (none k.0 k.1)
 
 -- what stands at a token, seen
 token_drop : (spots : List Spot) (from i : ℕ) → token_at (drop from spots) i ≡ token_at spots (from + i)
@@ -334,10 +336,10 @@ FirstIs t w = Starts (λ y. y ≡ t) w
 word_no_name : (k : _) (m : List ℕ) → token.Word k ≡ token.Name m → ⊥
 word_no_name k m e = cc
 
-function_opening : (m : List ℕ) {w : List Marked} {f : RoutineTree} → Function w f → FirstIs (token.Name m) w → Opening w
-function_opening m (function_decl at of xs t r e s) h = of_type of xs t r e (subst (FirstIs (token.Name m)) e h)
+function_opening : (home : RoutineKind) (m : List ℕ) {w : List Marked} {f : RoutineTree} → Function home w f → FirstIs (token.Name m) w → Opening w
+function_opening home m (function at of xs t r e s) h = of_type of xs t r e (subst (FirstIs (token.Name m)) e h)
   where
-    behind : {w : List Marked} (x : Marked) (xs : List Marked) {returns : TypeTree} {f : RoutineTree} → RoutineRule false at returns xs f → w ≡ x ∷ xs → Opening w
+    behind : {w : List Marked} (x : Marked) (xs : List Marked) {returns : TypeTree} {f : RoutineTree} → RoutineRule home at returns xs f → w ≡ x ∷ xs → Opening w
     behind x xs (routine p q r close y params body ps b e) g =
         record {
           one = x;
@@ -350,7 +352,7 @@ function_opening m (function_decl at of xs t r e s) h = of_type of xs t r e (sub
           opened = refl;
         }
 
-    of_type : (of xs : List Marked) {returns : TypeTree} {f : RoutineTree} → TypeRule 1 of returns → RoutineRule false at returns xs f → {w : List Marked} → w ≡ of ++ xs
+    of_type : (of xs : List Marked) {returns : TypeTree} {f : RoutineTree} → TypeRule 1 of returns → RoutineRule home at returns xs f → {w : List Marked} → w ≡ of ++ xs
         → FirstIs (token.Name m) (of ++ xs) → Opening w
     of_type of xs (named_type x) r e h = behind (node_name 1 x) xs r e
     of_type of xs (int_type p) r e h = absurd (word_no_name word.Int m h)
@@ -361,7 +363,7 @@ function_opening m (function_decl at of xs t r e s) h = of_type of xs t r e (sub
     of_type of xs (wrapped_type w p q s inner t g) r e h = absurd (word_no_name (wrapper_word w) m (subst (λ k. FirstIs (token.Name m) (k ++ xs)) g h))
 
 -- a class begins with two names and a word
-class_third : {w : List Marked} {c : ClassTree} → ClassRule w c → (x y : Marked) × (p : Place) × (m : List Marked) × (w ≡ x ∷ y ∷ said (codes "returns") p ∷ m)
+class_third : {version : Version} {w : List Marked} {c : ClassTree} → ClassRule version w c → (x y : Marked) × (p : Place) × (m : List Marked) × (w ≡ x ∷ y ∷ said (codes "returns") p ∷ m)
 class_third (class {x} p q r s u v k of slots locals blocks groups ht hp hs hl hb hg e) = (said (codes "class") p, said x q, r, _, e)
 
 module _ (spots : List Spot) (at : ℕ) (here : token_at spots at ≡ Some (token.Name (codes "class"))) where
@@ -388,14 +390,14 @@ module _ (spots : List Spot) (at : ℕ) (here : token_at spots at ≡ Some (toke
       ∙ seen_third n j (drop at spots) o.one o.two o.three (o.more ++ z) h (subst (λ k. Sees OF_CLASS_TEXT n j (drop at spots) (k ++ z)) o.is s)
       ∙ ap Some o.opened
 
-  things_opening : (n j : ℕ) (w z : List Marked) (y : RoutineTree × TextTree) → 1 ≤ j → FunctionThings w y → Sees OF_CLASS_TEXT n j (drop at spots) (w ++ z) → Opening w
-  things_opening n j w z y h r s =
+  things_opening : (v : Version) (n j : ℕ) (w z : List Marked) (y : RoutineTree × TextTree) → 1 ≤ j → FunctionThings v w y → Sees OF_CLASS_TEXT n j (drop at spots) (w ++ z) → Opening w
+  things_opening v n j w z y h r s =
       let m = r.front in
       let starts : FirstIs (token.Name (codes "class")) m.0 = of m.0 m.1 r.first r.rest m.2 r.is s in
-      let o = opening_more r.first r.rest (subst Opening (sym m.2) (opening_begin m.0 (function_opening (codes "class") m.1 starts))) in
+      let o = opening_more r.first r.rest (subst Opening (sym m.2) (opening_begin m.0 (function_opening (functions_of v) (codes "class") m.1 starts))) in
       subst Opening (sym r.is) o
     where
-      of : (xs : List Marked) → Function xs y.0 → (first rest : List Marked) → first ≡ begin (Node 1) xs → w ≡ first ++ rest → Sees OF_CLASS_TEXT n j (drop at spots) (w ++ z)
+      of : (xs : List Marked) → Function (functions_of v) xs y.0 → (first rest : List Marked) → first ≡ begin (Node 1) xs → w ≡ first ++ rest → Sees OF_CLASS_TEXT n j (drop at spots) (w ++ z)
           → FirstIs (token.Name (codes "class")) xs
       of [] f first rest e g s = absurd (function_starts f)
       of (x ∷ xs) f first rest e g s =
@@ -420,12 +422,12 @@ module _ (spots : List Spot) (at : ℕ) (here : token_at spots at ≡ Some (toke
   sees_two n [] x y ps qs m e f k l = absurd (cc)
   sees_two n (t ∷ ts) x y ps qs m e f k l = (let g : t.token ≡ x = cc in ap (λ y. record { token = y; at = t.at }) (sym g), k, sees_one n ts y qs m f l)
 
-  class_text : (p : Place) (x : Ident) → (m : List Marked) × (c : ClassTree) × ClassesRule (said (codes "class") p ∷ name_at x ∷ m) (c ∷ [])
-  class_text p x =
-      let y = some_after_returns in
-      let after : AfterClass (name_at x ∷ (said (codes "returns") nowhere ∷ y.marked)) (x, y.tree) =
+  class_text : (v : Version) (p : Place) (x : Ident) → (m : List Marked) × (c : ClassTree) × ClassesRule v (said (codes "class") p ∷ name_at x ∷ m) (c ∷ [])
+  class_text v p x =
+      let y = some_after_returns v in
+      let after : AfterClass v (name_at x ∷ (said (codes "returns") nowhere ∷ y.marked)) (x, y.tree) =
       record { first = name_at x ∷ []; rest = said (codes "returns") nowhere ∷ y.marked; is = refl; front = refl; back = (nowhere, y.marked, y.rule, refl) } in
-      let u = class_turns None in
+      let u = class_turns v None in
       let w = said (codes "class") p ∷ name_at x ∷ (said (codes "returns") nowhere ∷ y.marked) in
       let c = u.forth w (x, y.tree) (p, name_at x ∷ (said (codes "returns") nowhere ∷ y.marked), after, refl) in
       (said (codes "returns") nowhere ∷ y.marked, class_tree (x, y.tree), more_classes w [] c no_classes (sym (append-nil w)))
@@ -436,10 +438,10 @@ module _ (spots : List Spot) (at : ℕ) (here : token_at spots at ≡ Some (toke
   second_here : (m : List ℕ) → token_at spots (suc at) ≡ Some (token.Name m) → token_at (drop at spots) 1 ≡ Some (token.Name m)
   second_here m f = let e : at + 1 ≡ suc at = omega arith in token_drop spots at 1 ∙ ap (token_at spots) e ∙ f
 
-  early_class : (i : ℕ) → suc i < 2 → Early ClassesRule AtEnd (drop at spots) i
-  early_class zero h =
+  early_class : (v : Version) (i : ℕ) → suc i < 2 → Early (ClassesRule v) AtEnd (drop at spots) i
+  early_class v zero h =
       let s = spot_here (drop at spots) 0 (token.Name (codes "class")) first_here in
-      let c = class_text s.at (record { name = codes "a"; at = nowhere }) in
+      let c = class_text v s.at (record { name = codes "a"; at = nowhere }) in
       record {
         marked = said (codes "class") s.at ∷ name_at (record { name = codes "a"; at = nowhere }) ∷ c.0;
         tree = c.1 ∷ [];
@@ -448,14 +450,14 @@ module _ (spots : List Spot) (at : ℕ) (here : token_at spots at ≡ Some (toke
         sees = λ n. sees_one n (drop at spots) (token.Name (codes "class")) [] _ first_here tt;
         longer = omega arith;
       }
-  early_class (suc i) h = absurd (omega (arith, h))
+  early_class v (suc i) h = absurd (omega (arith, h))
 
-  early_named : (m : List ℕ) → token_at spots (suc at) ≡ Some (token.Name m) → (i : ℕ) → suc i < 3 → Early ClassesRule AtEnd (drop at spots) i
-  early_named m f zero h = early_class zero (omega arith)
-  early_named m f (suc zero) h =
+  early_named : (v : Version) (m : List ℕ) → token_at spots (suc at) ≡ Some (token.Name m) → (i : ℕ) → suc i < 3 → Early (ClassesRule v) AtEnd (drop at spots) i
+  early_named v m f zero h = early_class v zero (omega arith)
+  early_named v m f (suc zero) h =
       let s = spot_here (drop at spots) 0 (token.Name (codes "class")) first_here in
       let y = spot_here (drop at spots) 1 (token.Name m) (second_here m f) in
-      let c = class_text s.at (record { name = m; at = y.at }) in
+      let c = class_text v s.at (record { name = m; at = y.at }) in
       record {
         marked = said (codes "class") s.at ∷ name_at (record { name = m; at = y.at }) ∷ c.0;
         tree = c.1 ∷ [];
@@ -464,33 +466,33 @@ module _ (spots : List Spot) (at : ℕ) (here : token_at spots at ≡ Some (toke
         sees = λ n. sees_two n (drop at spots) (token.Name (codes "class")) (token.Name m) [] [] _ first_here (second_here m f) tt tt;
         longer = omega arith;
       }
-  early_named m f (suc (suc i)) h = absurd (omega (arith, h))
+  early_named v m f (suc (suc i)) h = absurd (omega (arith, h))
 
-  class_back : (k : ℕ) → ((n j : ℕ) (w z : List Marked) → Opening w → k ≤ j → Sees OF_CLASS_TEXT n j (drop at spots) (w ++ z) → ⊥) → 1 ≤ k → (n j : ℕ) (w z : List Marked) (b : TextTree) → Things w b
-      → AtEnd b z → k ≤ j → Sees OF_CLASS_TEXT n j (drop at spots) (w ++ z) → Back Things AtEnd ClassesRule AtEnd (λ cs. (([], []), cs)) w z b
-  class_back k nope one n j w z b r f le s = of (begins w b r)
+  class_back : (v : Version) (k : ℕ) → ((n j : ℕ) (w z : List Marked) → Opening w → k ≤ j → Sees OF_CLASS_TEXT n j (drop at spots) (w ++ z) → ⊥) → 1 ≤ k → (n j : ℕ) (w z : List Marked) (b : TextTree) → Things v w b
+      → AtEnd b z → k ≤ j → Sees OF_CLASS_TEXT n j (drop at spots) (w ++ z) → Back (Things v) AtEnd (ClassesRule v) AtEnd (λ cs. (([], []), cs)) w z b
+  class_back v k nope one n j w z b r f le s = of (begins v w b r)
     where
-      of : Begin w b → Back Things AtEnd ClassesRule AtEnd (λ cs. (([], []), cs)) w z b
+      of : Begin v w b → Back (Things v) AtEnd (ClassesRule v) AtEnd (λ cs. (([], []), cs)) w z b
       of (with_class cs q e) = record { tree = cs; rule = q; is = e; follows = f }
-      of (with_struct y q e) = let g = first_class n j (λ t. t ≡ token.Word word.Struct) w z (omega (arith, one, le)) (things_record w y q) s in absurd (name_no_word (codes "class") word.Struct g)
-      of (with_type y q e) = absurd (nope n j w z (things_opening n j w z y (omega (arith, one, le)) q s) le s)
+      of (with_struct y q e) = let g = first_class n j (λ t. t ≡ token.Word word.Struct) w z (omega (arith, one, le)) (things_record v w y q) s in absurd (name_no_word (codes "class") word.Struct g)
+      of (with_type y q e) = absurd (nope n j w z (things_opening v n j w z y (omega (arith, one, le)) q s) le s)
 
   -- a class begins here
-  pub class_far : {A : Type 0} {W : List Marked → A → Type 0} {FW : A → List Marked → Type 0} {g : TextTree → A} {from : ℕ}
-      → (AsFirst NameToken (token_at spots (suc at)) → token_at spots (suc (suc at)) ≡ Some (token.Sign sign.OpenRound) → ⊥) → Leaves OF_CLASS_TEXT W FW Things AtEnd g spots from at
-      → Leaves OF_CLASS_TEXT W FW ClassesRule AtEnd (λ cs. g (([], []), cs)) spots from at
-  class_far {W = W} {FW = FW} {g = g} {from = from} nope l = of (token_at spots (suc at)) refl
+  pub class_far : (v : Version) {A : Type 0} {W : List Marked → A → Type 0} {FW : A → List Marked → Type 0} {g : TextTree → A} {from : ℕ}
+      → (AsFirst NameToken (token_at spots (suc at)) → token_at spots (suc (suc at)) ≡ Some (token.Sign sign.OpenRound) → ⊥) → Leaves OF_CLASS_TEXT W FW (Things v) AtEnd g spots from at
+      → Leaves OF_CLASS_TEXT W FW (ClassesRule v) AtEnd (λ cs. g (([], []), cs)) spots from at
+  class_far v {W = W} {FW = FW} {g = g} {from = from} nope l = of (token_at spots (suc at)) refl
     where
-      two : ((m : List ℕ) → token_at spots (suc at) ≡ Some (token.Name m) → ⊥) → Leaves OF_CLASS_TEXT W FW ClassesRule AtEnd (λ cs. g (([], []), cs)) spots from at
+      two : ((m : List ℕ) → token_at spots (suc at) ≡ Some (token.Name m) → ⊥) → Leaves OF_CLASS_TEXT W FW (ClassesRule v) AtEnd (λ cs. g (([], []), cs)) spots from at
       two f =
-          narrow_far spots 2 (class_back 2 (λ n j w z o le s. f o.name (second_is n j w z o le s)) (omega arith)) (λ w cs r. record { first = []; rest = w; is = refl; front = no_heads; back = r })
-          early_class l
+          narrow_far spots 2 (class_back v 2 (λ n j w z o le s. f o.name (second_is n j w z o le s)) (omega arith)) (λ w cs r. record { first = []; rest = w; is = refl; front = no_heads; back = r })
+          (early_class v) l
 
-      of : (o : Option Token) → token_at spots (suc at) ≡ o → Leaves OF_CLASS_TEXT W FW ClassesRule AtEnd (λ cs. g (([], []), cs)) spots from at
+      of : (o : Option Token) → token_at spots (suc at) ≡ o → Leaves OF_CLASS_TEXT W FW (ClassesRule v) AtEnd (λ cs. g (([], []), cs)) spots from at
       of (Some (token.Name m)) e = narrow_far spots 3
-          (class_back 3 (λ n j w z o le s. nope (subst (AsFirst NameToken) (sym e) tt) (third_is n j w z o le s)) (omega arith))
+          (class_back v 3 (λ n j w z o le s. nope (subst (AsFirst NameToken) (sym e) tt) (third_is n j w z o le s)) (omega arith))
           (λ w cs r. record { first = []; rest = w; is = refl; front = no_heads; back = r })
-          (early_named m e) l
+          (early_named v m e) l
       of None e = two (λ m f. let g : None ≡ Some (token.Name m) = sym e ∙ f in cc)
       of (Some (token.Number k)) e = two (λ m f. let g : Some (token.Number k) ≡ Some (token.Name m) = sym e ∙ f in cc)
       of (Some (token.Text k)) e = two (λ m f. let g : Some (token.Text k) ≡ Some (token.Name m) = sym e ∙ f in cc)
@@ -498,31 +500,31 @@ module _ (spots : List Spot) (at : ℕ) (here : token_at spots at ≡ Some (toke
       of (Some (token.Sign k)) e = two (λ m f. let g : Some (token.Sign k) ≡ Some (token.Name m) = sym e ∙ f in cc)
 
   -- or a function whose result is a record of that name
-  function_text : (p : Place) (x : Ident) → (m : List Marked) × (f : RoutineTree) × FunctionRule (opens (Node 1 ∷ Node 1 ∷ []) (token.Name (codes "class")) p ∷ name_at x ∷ m) f
-  function_text p x =
+  function_text : (v : Version) (p : Place) (x : Ident) → (m : List Marked) × (f : RoutineTree) × HeadFunctionRule v (opens (Node 1 ∷ Node 1 ∷ []) (token.Name (codes "class")) p ∷ name_at x ∷ m) f
+  function_text v p x =
       let m = sign_at sign.OpenRound nowhere ∷ sign_at sign.CloseRound nowhere ∷ sign_at sign.OpenCurly nowhere ∷ sign_at sign.CloseCurly nowhere ∷ [] in
       let c : Ident = record { name = codes "class"; at = p } in (
         m,
         record { at = p; returns = NamedType (codes "class"); name = x; params = []; body = End; close = nowhere },
-        function_rule (node_name 1 c ∷ name_at x ∷ m) (function_decl p (node_name 1 c ∷ []) (name_at x ∷ m) (named_type c) (routine nowhere nowhere nowhere nowhere x [] [] no_params no_stmts refl)
+        function_rule (node_name 1 c ∷ name_at x ∷ m) (function p (node_name 1 c ∷ []) (name_at x ∷ m) (named_type c) (routine nowhere nowhere nowhere nowhere x [] [] no_params no_stmts refl)
             refl refl),
       )
 
-  function_whole : (p : Place) (x : Ident) → (m : List Marked) × (y : RoutineTree × TextTree) × FunctionThings (opens (Node 1 ∷ Node 1 ∷ []) (token.Name (codes "class")) p ∷ name_at x ∷ m) y
+  function_whole : (v : Version) (p : Place) (x : Ident) → (m : List Marked) × (y : RoutineTree × TextTree) × FunctionThings v (opens (Node 1 ∷ Node 1 ∷ []) (token.Name (codes "class")) p ∷ name_at x ∷ m) y
   unfolding some_things
-  function_whole p x =
-      let f = function_text p x in
+  function_whole v p x =
+      let f = function_text v p x in
       let w = opens (Node 1 ∷ Node 1 ∷ []) (token.Name (codes "class")) p ∷ name_at x ∷ f.0 in
-      let s = some_things in
+      let s = some_things v in
       (f.0, (f.1, s.tree), record { first = w; rest = s.marked; is = sym (append-nil w); front = function_marks f.2; back = s.rule })
 
   one_deep : (n : ℕ) → AllInLimitsOf OF_CLASS_TEXT n (Node 1 ∷ Node 1 ∷ [])
   one_deep n = ((λ h. omega arith), ((λ h. omega arith), tt))
 
-  early_function : (m : List ℕ) → token_at spots (suc at) ≡ Some (token.Name m) → (i : ℕ) → suc i < 3 → Early FunctionThings AtEnd (drop at spots) i
-  early_function m f zero h =
+  early_function : (v : Version) (m : List ℕ) → token_at spots (suc at) ≡ Some (token.Name m) → (i : ℕ) → suc i < 3 → Early (FunctionThings v) AtEnd (drop at spots) i
+  early_function v m f zero h =
       let s = spot_here (drop at spots) 0 (token.Name (codes "class")) first_here in
-      let c = function_whole s.at (record { name = m; at = nowhere }) in
+      let c = function_whole v s.at (record { name = m; at = nowhere }) in
       record {
         marked = opens (Node 1 ∷ Node 1 ∷ []) (token.Name (codes "class")) s.at ∷ name_at (record { name = m; at = nowhere }) ∷ c.0;
         tree = c.1;
@@ -531,10 +533,10 @@ module _ (spots : List Spot) (at : ℕ) (here : token_at spots at ≡ Some (toke
         sees = λ n. sees_one n (drop at spots) (token.Name (codes "class")) (Node 1 ∷ Node 1 ∷ []) _ first_here (one_deep n);
         longer = omega arith;
       }
-  early_function m f (suc zero) h =
+  early_function v m f (suc zero) h =
       let s = spot_here (drop at spots) 0 (token.Name (codes "class")) first_here in
       let y = spot_here (drop at spots) 1 (token.Name m) (second_here m f) in
-      let c = function_whole s.at (record { name = m; at = y.at }) in
+      let c = function_whole v s.at (record { name = m; at = y.at }) in
       record {
         marked = opens (Node 1 ∷ Node 1 ∷ []) (token.Name (codes "class")) s.at ∷ name_at (record { name = m; at = y.at }) ∷ c.0;
         tree = c.1;
@@ -543,14 +545,14 @@ module _ (spots : List Spot) (at : ℕ) (here : token_at spots at ≡ Some (toke
         sees = λ n. sees_two n (drop at spots) (token.Name (codes "class")) (token.Name m) (Node 1 ∷ Node 1 ∷ []) [] _ first_here (second_here m f) (one_deep n) tt;
         longer = omega arith;
       }
-  early_function m f (suc (suc i)) h = absurd (omega (arith, h))
+  early_function v m f (suc (suc i)) h = absurd (omega (arith, h))
 
-  pub function_far : {A : Type 0} {W : List Marked → A → Type 0} {FW : A → List Marked → Type 0} {g : TextTree → A} {from : ℕ} (m : List ℕ) → token_at spots (suc at) ≡ Some (token.Name m)
-      → token_at spots (suc (suc at)) ≡ Some (token.Sign sign.OpenRound) → Leaves OF_CLASS_TEXT W FW Things AtEnd g spots from at
-      → Leaves OF_CLASS_TEXT W FW FunctionThings AtEnd (λ y. g (with_function y)) spots from at
-  function_far m e o l = narrow_far spots 3 back (λ w y r. function_things w y r) (early_function m e) l
+  pub function_far : (v : Version) {A : Type 0} {W : List Marked → A → Type 0} {FW : A → List Marked → Type 0} {g : TextTree → A} {from : ℕ} (m : List ℕ) → token_at spots (suc at) ≡ Some (token.Name m)
+      → token_at spots (suc (suc at)) ≡ Some (token.Sign sign.OpenRound) → Leaves OF_CLASS_TEXT W FW (Things v) AtEnd g spots from at
+      → Leaves OF_CLASS_TEXT W FW (FunctionThings v) AtEnd (λ y. g (with_function y)) spots from at
+  function_far v m e o l = narrow_far spots 3 back (λ w y r. function_things v w y r) (early_function v m e) l
     where
-      returns_third : (n j : ℕ) (w z : List Marked) (cs : List ClassTree) → ClassesRule w cs → AtEnd cs z → 3 ≤ j → Sees OF_CLASS_TEXT n j (drop at spots) (w ++ z) → ⊥
+      returns_third : (n j : ℕ) (w z : List Marked) (cs : List ClassTree) → ClassesRule v w cs → AtEnd cs z → 3 ≤ j → Sees OF_CLASS_TEXT n j (drop at spots) (w ++ z) → ⊥
       returns_third n j w z cs no_classes f le s = nothing_seen n j z f (omega (arith, le)) s
         where
           nothing_seen : (n j : ℕ) (z : List Marked) → z ≡ [] → 1 ≤ j → Sees OF_CLASS_TEXT n j (drop at spots) z → ⊥
@@ -567,11 +569,11 @@ module _ (spots : List Spot) (at : ℕ) (here : token_at spots at ≡ Some (toke
           let e : at + 2 ≡ suc (suc at) = omega arith in
           some_no_sign (codes "returns") sign.OpenRound (sym (sym o ∙ ap (token_at spots) (sym e) ∙ sym (token_drop spots at 2) ∙ k))
 
-      back : (n j : ℕ) (w z : List Marked) (b : TextTree) → Things w b → AtEnd b z → 3 ≤ j → Sees OF_CLASS_TEXT n j (drop at spots) (w ++ z)
-          → Back Things AtEnd FunctionThings AtEnd with_function w z b
-      back n j w z b r f le s = of (begins w b r)
+      back : (n j : ℕ) (w z : List Marked) (b : TextTree) → Things v w b → AtEnd b z → 3 ≤ j → Sees OF_CLASS_TEXT n j (drop at spots) (w ++ z)
+          → Back (Things v) AtEnd (FunctionThings v) AtEnd with_function w z b
+      back n j w z b r f le s = of (begins v w b r)
         where
-          of : Begin w b → Back Things AtEnd FunctionThings AtEnd with_function w z b
+          of : Begin v w b → Back (Things v) AtEnd (FunctionThings v) AtEnd with_function w z b
           of (with_type y q e) = record { tree = y; rule = q; is = e; follows = f }
-          of (with_struct y q e) = let g = first_class n j (λ t. t ≡ token.Word word.Struct) w z (omega (arith, le)) (things_record w y q) s in absurd (name_no_word (codes "class") word.Struct g)
+          of (with_struct y q e) = let g = first_class n j (λ t. t ≡ token.Word word.Struct) w z (omega (arith, le)) (things_record v w y q) s in absurd (name_no_word (codes "class") word.Struct g)
           of (with_class cs q e) = absurd (returns_third n j w z cs q f le s)

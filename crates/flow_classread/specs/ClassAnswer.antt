@@ -22,12 +22,12 @@ use Rattle.flow_classread.specs.declared.read.TheConstants.{CLASS_BYTES}
 
 -- The tokens are these records, functions and classes by the grammar, and nothing is deeper than 64.
 abbrev pub DerivesClasses : List Spot → RawTree → Type 0
-DerivesClasses spots raw = DerivesOf OF_CLASS_TEXT (TextRule 1) 7 spots raw
+DerivesClasses spots raw = DerivesOf OF_CLASS_TEXT TextRule 7 spots raw
 
 -- A class text begins with the tokens up to the one of this number, it among them, and what has begun of it isn't deeper than 64.
 -- The end counts as one more token, and up to it the tokens begin one where they are a whole one.
 pub data BeginsText (t : Tokens) : ℕ → Type 0 where
-  begun : {k : ℕ} → k < length t.spots.items → GoodOf OF_CLASS_TEXT (TextRule 1) 7 (take (suc k) t.spots.items) → BeginsText t k
+  begun : {k : ℕ} → k < length t.spots.items → GoodOf OF_CLASS_TEXT TextRule 7 (take (suc k) t.spots.items) → BeginsText t k
   whole : (raw : RawTree) → DerivesClasses t.spots.items raw → BeginsText t (length t.spots.items)
 
 -- This is the line of the first token such that no class text begins with the tokens up to it.

@@ -20,7 +20,8 @@ use Rattle.flow_tree.specs.declared.token.Spot.{Spot}
 use Rattle.std.specs.declared.option.Option.TheVariants.{Some}
 use Rattle.flow_parse.specs.Openers.{AsFirst, NameToken}
 use Rattle.flow_parse.specs.Reading.{token_at, Tok, Named, Then}
-use Rattle.flow_classprint.specs.ClassGrammar.{number_at, IsNumber, IsPlace, place_at, AreFree, AllAreFree, WholeRule, VarPathRule, CalleeRule, LocalsRule, MaybeLocalsRule, ErrorRule, InstrsRule, LastRule, NumberedRule, BlockRule, CallbackRule, HeadsRule, ClassesRule}
+use Rattle.flow_classprint.specs.declared.version.Version.{Version}
+use Rattle.flow_classprint.specs.ClassGrammar.{version_number, number_at, IsNumber, IsPlace, place_at, AreFree, AllAreFree, WholeRule, VarPathRule, CalleeRule, LocalsRule, MaybeLocalsRule, ErrorRule, InstrsRule, ReturnedRule, LastRule, NumberedRule, BlockRule, CallbackRule, HeadsRule, ClassesRule}
 
 -- the next token isn't such
 abbrev pub NotFirst : (Token → Type 0) → {A : Type 0} → A → List Marked → Type 0
@@ -128,6 +129,10 @@ branch_tree x = TestLast x.0 x.1.0 x.1.1
 abbrev pub BranchPart : List Marked → LastTree → Type 0
 BranchPart = Mapped branch_tree Branch
 
+-- what a `return` gives, and its semicolon
+abbrev pub Returned : Version → List Marked → Option ExprTree → Type 0
+Returned v = Closed (token.Sign sign.Semicolon) (ReturnedRule v)
+
 -- the words with which an instruction begins
 abbrev pub InstrToken : Token → Type 0
 InstrToken t = Says (codes "set") t ⊎ Says (codes "do") t ⊎ Says (codes "new") t ⊎ Says (codes "act") t ⊎ Says (codes "drop") t
@@ -146,8 +151,8 @@ abbrev pub CatcherPart : List Marked → CatcherTree → Type 0
 CatcherPart = Mapped catcher_tree Catcher
 
 -- { instr } last "}"
-abbrev pub BlockBody : List Marked → List InstrTree × LastTree → Type 0
-BlockBody = Both InstrsRule (Closed (token.Sign sign.CloseCurly) LastRule)
+abbrev pub BlockBody : Version → List Marked → List InstrTree × LastTree → Type 0
+BlockBody v = Both InstrsRule (Closed (token.Sign sign.CloseCurly) (LastRule v))
 
 -- ( "wait" | "waitNext" ) "(" expr ")"
 abbrev pub Operand : List Marked → Bool × ExprTree → Type 0
@@ -165,17 +170,24 @@ abbrev pub GroupPart : (group first : ℕ) → List Marked → List CallbackTree
 GroupPart g k w cs = (p : Place) × Both (Numbered (codes "group") g) (Behind (token.Sign sign.OpenCurly) (Callbacks k)) w (p, cs)
 
 -- one block at least
-abbrev pub Blocks : List Marked → List BlockTree → Type 0
-Blocks w bs = (0 < length bs) × NumberedRule BlockRule 0 w bs
+abbrev pub Blocks : Version → List Marked → List BlockTree → Type 0
+Blocks v w bs = (0 < length bs) × NumberedRule (BlockRule v) 0 w bs
+
+-- the number of a version, and the head of a class text, which tells it
+abbrev pub VersionPart : List Marked → Version → Type 0
+VersionPart w v = (p : Place) × (w ≡ number_at (version_number v) p ∷ [])
+
+abbrev pub VersionHead : List Marked → Version → Type 0
+VersionHead = Behind (token.Name (codes "classes")) VersionPart
 
 -- records and functions in any order, and then classes
-abbrev pub Heads : List Marked → List RecordTree × List RoutineTree → Type 0
-Heads w x = HeadsRule w x.0 x.1
+abbrev pub Heads : Version → List Marked → List RecordTree × List RoutineTree → Type 0
+Heads v w x = HeadsRule v w x.0 x.1
 
-abbrev pub Rest : List Marked → RawTree → Type 0
-Rest = Mapped
+abbrev pub Rest : Version → List Marked → RawTree → Type 0
+Rest v = Mapped
     (λ (x : (List RecordTree × List RoutineTree) × List ClassTree). record { records = x.0.0; functions = x.0.1; classes = x.1 })
-    (Both Heads ClassesRule)
+    (Both (Heads v) (ClassesRule v))
 
 -- a class begins at a token, and no function whose result is a record of that name; or none does
 abbrev pub BeginsClass : List Spot → ℕ → Type 0

@@ -15,6 +15,7 @@ ghost use Rattle.flow_classread.specs.Parts.{NotFirst, InstrToken, Dropped, Catc
 use crate::instr::{begins_instr, instr, last, locals};
 use crate::token::{local, number, numbered, said, says};
 use flow_class::class::{Block, Catcher, Instr, Last};
+use flow_classprint::version::Version;
 use flow_parse::token::{is_sign, is_word, sign};
 use flow_tree::fault::SourceFault;
 use flow_tree::token::{Sign, Tokens, Word};
@@ -116,36 +117,42 @@ fn instrs(alloc: Global, tokens: &Tokens, at: usize) -> Result<(Vec<Instr>, usiz
 }
 
 // `{ instr } last "}"`.
-fn body(alloc: Global, tokens: &Tokens, at: usize) -> Result<ReadBody, SourceFault>
+fn body(
+    alloc: Global,
+    tokens: &Tokens,
+    at: usize,
+    version: Version,
+) -> Result<ReadBody, SourceFault>
     requires within { at ≤ length tokens.now.spots.items }
     requires rising { AreRising tokens.now }
-    ensures reads { Answer OF_CLASS_TEXT BlockBody Any
+    ensures reads { Answer OF_CLASS_TEXT (BlockBody version) Any
         (λ r. (map instr_of r.body.items, last_of r.last)) (λ r. r.to) tokens.now at result }
     ensures moves { IfOk result (λ r. (at < r.to) × (r.to ≤ length tokens.now.spots.items)) }
 {
     let (body, at) = instrs(alloc, tokens, at)?;
-    let (last, at) = last(alloc, tokens, at)?;
+    let (last, at) = last(alloc, tokens, at, version)?;
     let to = sign(tokens, at, Sign::CloseCurly)?;
     Ok(ReadBody { body, last, to })
 }
 
-/// The block of this number, and the number of the token after it.
+/// The block of this number and version, and the number of the token after it.
 pub fn block(
     alloc: Global,
     tokens: &Tokens,
     at: usize,
     n: u32,
+    version: Version,
 ) -> Result<(Block, usize), SourceFault>
     requires within { at ≤ length tokens.now.spots.items }
     requires rising { AreRising tokens.now }
-    ensures reads { Answer OF_CLASS_TEXT (BlockRule n) Any (λ r. block_of r.0) (λ r. r.1) tokens.now
-        at result }
+    ensures reads { Answer OF_CLASS_TEXT (BlockRule version n) Any (λ r. block_of r.0) (λ r. r.1)
+        tokens.now at result }
     ensures moves { IfOk result (λ r. (at < r.1) × (r.1 ≤ length tokens.now.spots.items)) }
 {
     let at = numbered(tokens, at, b"block", n)?;
     let (catcher, at) = caught(alloc, tokens, at)?;
     let at = sign(tokens, at, Sign::OpenCurly)?;
-    let read = body(alloc, tokens, at)?;
+    let read = body(alloc, tokens, at, version)?;
     let block = Block {
         catcher,
         body: read.body,

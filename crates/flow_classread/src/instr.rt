@@ -1,6 +1,8 @@
 // Instructions of class text.
 
-ghost use Rattle.std.specs.Prelude.{◌≡◌, ◌↔◌, ◌+◌, ◌<◌, ◌≤◌, length, IfOk, IsTrue, OnSome};
+ghost use Rattle.std.specs.Prelude.{◌≡◌, ◌↔◌, ◌+◌, ◌<◌, ◌≤◌, length, IfOk, IsTrue, OnSome, Some};
+ghost use Rattle.std.specs.Bool.{OnTrue};
+ghost use Rattle.std.specs.Option.{option_map};
 ghost use Rattle.flow_tree.specs.declared.token.Token.TheVariants as token;
 ghost use Rattle.flow_tree.specs.declared.token.Sign.TheVariants as sign;
 ghost use Rattle.flow_tree.specs.declared.limits.TheConstants.{OF_CLASS_TEXT};
@@ -12,12 +14,13 @@ ghost use Rattle.flow_parse.specs.Openers.{AsFirst};
 ghost use Rattle.flow_classprint.specs.ClassGrammar.{VarPathRule, CalleeRule, LocalsRule, InstrRule, LastRule};
 ghost use Rattle.flow_classread.specs.Rising.{AreRising};
 ghost use Rattle.flow_classread.specs.Tokens.{place_ident_at};
-ghost use Rattle.flow_classread.specs.Parts.{SinglePart, Assignment, ActInstrPart, NewInstrPart, DropInstrPart, BranchPart, InstrToken};
+ghost use Rattle.flow_classread.specs.Parts.{SinglePart, Assignment, ActInstrPart, NewInstrPart, DropInstrPart, BranchPart, Returned, InstrToken};
 
 use crate::expr::{arguments, ended, test};
 use crate::token::{local, number, place_here, said, says, slotted, target};
 use flow_base::memory::NoMemory;
 use flow_class::class::{Instr, Last};
+use flow_classprint::version::Version;
 use flow_parse::simple::more_names;
 use flow_parse::token::{is_sign, is_word, name, read_name, refused, sign, word};
 use flow_tree::expr::Expr;
@@ -209,12 +212,46 @@ fn branch(alloc: Global, tokens: &Tokens, at: usize) -> Result<(Last, usize), So
     Ok((Last::Test(condition, yes, no), to))
 }
 
-/// The last instruction of a block, and the number of the token after it.
-pub fn last(alloc: Global, tokens: &Tokens, at: usize) -> Result<(Last, usize), SourceFault>
+// Whether a `return` of this version gives nothing here.
+fn is_bare(tokens: &Tokens, at: usize, version: Version) -> bool
+    ensures bare { IsTrue result ↔ ((version ≡ Version.Two)
+        × (token_at tokens.now.spots.items at ≡ Some (token.Sign sign.Semicolon))) }
+    ensures within { OnTrue result (at < length tokens.now.spots.items) }
+{
+    version == Version::Two && is_sign(tokens, at, Sign::Semicolon)
+}
+
+// `[ expr ] ";"`, where version 2 alone has no expression.
+fn returned(
+    alloc: Global,
+    tokens: &Tokens,
+    at: usize,
+    version: Version,
+) -> Result<(Option<Expr>, usize), SourceFault>
     requires within { at ≤ length tokens.now.spots.items }
     requires rising { AreRising tokens.now }
-    ensures reads { Answer OF_CLASS_TEXT LastRule Any (λ r. last_of r.0) (λ r. r.1) tokens.now at
-        result }
+    ensures reads { Answer OF_CLASS_TEXT (Returned version) Any (λ r. option_map expr_of r.0)
+        (λ r. r.1) tokens.now at result }
+    ensures moves { IfOk result (λ r. (at < r.1) × (r.1 ≤ length tokens.now.spots.items)) }
+{
+    if is_bare(tokens, at, version) {
+        return Ok((None, at + 1));
+    }
+    let (value, to) = ended(alloc, tokens, at)?;
+    Ok((Some(value), to))
+}
+
+/// The last instruction of a block of this version, and the number of the token after it.
+pub fn last(
+    alloc: Global,
+    tokens: &Tokens,
+    at: usize,
+    version: Version,
+) -> Result<(Last, usize), SourceFault>
+    requires within { at ≤ length tokens.now.spots.items }
+    requires rising { AreRising tokens.now }
+    ensures reads { Answer OF_CLASS_TEXT (LastRule version) Any (λ r. last_of r.0) (λ r. r.1)
+        tokens.now at result }
     ensures moves { IfOk result (λ r. (at < r.1) × (r.1 ≤ length tokens.now.spots.items)) }
 {
     if says(tokens, at, b"goto") {
@@ -234,8 +271,8 @@ pub fn last(alloc: Global, tokens: &Tokens, at: usize) -> Result<(Last, usize), 
         return Ok((Last::Choose(group), to));
     }
     if is_word(tokens, at, Word::Return) {
-        let (value, to) = ended(alloc, tokens, at + 1)?;
-        return Ok((Last::Return(Some(value)), to));
+        let (value, to) = returned(alloc, tokens, at + 1, version)?;
+        return Ok((Last::Return(value), to));
     }
     let at = word(tokens, at, Word::Throw)?;
     let (error, to) = ended(alloc, tokens, at)?;

@@ -6,11 +6,12 @@ ghost use Rattle.flow_tree.specs.declared.token.Token.TheVariants as token;
 ghost use Rattle.flow_tree.specs.declared.limits.TheConstants.{OF_CLASS_TEXT};
 ghost use Rattle.flow_tree.specs.GrammarAnswer.{place_at};
 ghost use Rattle.flow_parse.specs.Reading.{token_at, Tok, Any, Answer};
-ghost use Rattle.flow_classread.specs.Parts.{NumberPart, Numbered, Target, SlottedPart, LocalPart};
+ghost use Rattle.flow_classread.specs.Parts.{NumberPart, Numbered, Target, SlottedPart, LocalPart, VersionPart};
 ghost use Rattle.flow_classread.specs.Tokens.{number_in, place_in, local_in};
 
 use flow_class::class::Slotted;
 use flow_class::places::place_named;
+use flow_classprint::version::Version;
 use flow_parse::token::{refused, sign};
 use flow_tree::fault::{Rule, SourceFault};
 use flow_tree::token::{Sign, Token, Tokens};
@@ -125,6 +126,22 @@ pub fn numbered(tokens: &Tokens, at: usize, word: &[u8], n: u32) -> Result<usize
     let at = said(tokens, at, word)?;
     let to = exactly(tokens, at, n)?;
     Ok(to)
+}
+
+/// The version of class text whose number stands here, and the number of the token after it; S5 where none does.
+pub fn version(tokens: &Tokens, at: usize) -> Result<(Version, usize), SourceFault>
+    requires within { at ≤ length tokens.now.spots.items }
+    ensures reads { Answer OF_CLASS_TEXT VersionPart Any (λ r. r.0) (λ r. r.1) tokens.now at
+        result }
+    ensures moves { IfOk result (λ r. (r.1 ≡ at + 1) × (r.1 ≤ length tokens.now.spots.items)) }
+{
+    if is_number(tokens, at, 1) {
+        return Ok((Version::One, at + 1));
+    }
+    if is_number(tokens, at, 2) {
+        return Ok((Version::Two, at + 1));
+    }
+    Err(refused(tokens, Rule::S(5), at))
 }
 
 /// `number ";"`.

@@ -35,7 +35,7 @@ impl Kind {
 }
 
 /// All kinds: names, numbers and texts, then the words and the signs in the order of the language page.
-pub const KINDS: [Kind; 61] = [
+pub const KINDS: [Kind; 63] = [
     Kind::Name,
     Kind::Number,
     Kind::Text,
@@ -68,6 +68,8 @@ pub const KINDS: [Kind; 61] = [
     Kind::Word(Word::FutureStream),
     Kind::Word(Word::Promise),
     Kind::Word(Word::PromiseStream),
+    Kind::Word(Word::Vector),
+    Kind::Word(Word::NoResult),
     Kind::Sign(Sign::OpenRound),
     Kind::Sign(Sign::CloseRound),
     Kind::Sign(Sign::OpenCurly),

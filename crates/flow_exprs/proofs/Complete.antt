@@ -9,12 +9,12 @@ use Rattle.flow_tree.specs.declared.expr.Op.{Op}
 use Rattle.flow_tree.specs.declared.expr.Op.TheVariants.{Or, And, Eq, Ne, Lt, Le, Gt, Ge, Add, Sub, Mul, Div, Rem}
 use Rattle.flow_tree.specs.Tree.{ExprTree, ExprTrees, IntExpr, TextExpr, BoolExpr, VoidExpr, VarExpr, CallExpr, FieldExpr, MethodExpr, NotExpr, NegExpr, BinaryExpr, ParenExpr, NoExprs}
 use Rattle.flow_tree.specs.GrammarToken.{Node, Marked, begin, spots_of}
-use Rattle.flow_tree.specs.Grammar.{sign_at, name_at, level, op_sign, ExprRule, number, text, truth, falsehood, void, variable, call, paren, field, method, negation, minus, binary, ArgsRule, no_args, some_args, MoreArgsRule, end_args, more_args}
+use Rattle.flow_tree.specs.Grammar.{sign_at, name_at, level, op_sign, ExprRule, number, text, truth, falsehood, void, variable, call, paren, field, method, index, negation, minus, binary, ArgsRule, no_args, some_args, MoreArgsRule, end_args, more_args}
 use Rattle.flow_tree.proofs.GrammarLists.{spots_append, spots_begin}
 use Rattle.flow_exprs.specs.declared.kind.Kind.{Kind}
 use Rattle.flow_exprs.specs.declared.kind.Kind.TheVariants as kind
 use Rattle.flow_exprs.specs.Kinds.{kind_of, sign_kind}
-use Rattle.flow_exprs.specs.Machine.{Head, Function, Method, called, Unary, Negation, Minus, unary, Stack, Top, InParen, InUnary, InTwo, InArgs, State, Want, Have, WantArgs, Dead, push, closed_tree, closed_stack, after_open, step_kind, step, Below}
+use Rattle.flow_exprs.specs.Machine.{Head, Function, Method, called, Unary, Negation, Minus, unary, Stack, Top, InParen, InUnary, InTwo, InArgs, InIndex, State, Want, Have, WantArgs, Dead, push, closed_tree, closed_stack, after_open, step_kind, step, Below}
 use Rattle.flow_exprs.specs.Answer.{NotCallable, KindStops}
 use Rattle.flow_exprs.proofs.Sound.{spot, sign_spot, name_spot, join, join_push, join_none}
 use Rattle.flow_exprs.proofs.Steps.{nat_lt_ge, nat_lt_lt, level_small}
@@ -66,6 +66,8 @@ open_dead (ParenExpr t) K h = refl
 pub two_step : (op : Op) (l r : ExprTree) (K : Stack) (k : Kind) (x : Spot) → KindStops (suc (level op)) r k → step_kind (Have r (InTwo op l K)) k x ≡ step_kind (Have (BinaryExpr op l r) K) k x
 two_step op l r K kind.Open x h = open_dead r (InTwo op l K) h
 two_step op l r K kind.Close x h = rw (nat_lt_ge (level op) 0 (omega arith))
+two_step op l r K kind.OpenSquare x h = absurd (omega (arith, level_small op))
+two_step op l r K kind.CloseSquare x h = rw (nat_lt_ge (level op) 0 (omega arith))
 two_step op l r K kind.Comma x h = rw (nat_lt_ge (level op) 0 (omega arith))
 two_step op l r K kind.Dot x h = absurd (omega (arith, level_small op))
 two_step op l r K (kind.Op o) x h = rw (nat_lt_ge (level op) (level o) (omega arith))
@@ -78,6 +80,7 @@ unary_dead Minus t K = refl
 pub unary_step : (u : Unary) (t : ExprTree) (K : Stack) (k : Kind) (x : Spot) → KindStops 7 t k → step_kind (Have t (InUnary u K)) k x ≡ step_kind (Have (unary u t) K) k x
 unary_step u t K kind.Open x h = open_dead t (InUnary u K) h ∙ sym (unary_dead u t K)
 unary_step u t K kind.Dot x h = absurd (omega arith)
+unary_step u t K kind.OpenSquare x h = absurd (omega arith)
 unary_step u t K _ x h = refl
 
 two_same : (op : Op) (l r : ExprTree) (K : Stack) (rest : List Spot) → FirstStops (suc (level op)) r rest → Same (Have r (InTwo op l K)) rest (Have (BinaryExpr op l r) K) rest
@@ -94,6 +97,7 @@ open_tree n t (InParen K) le h = refl
 open_tree n t (InUnary u K) le h = absurd (omega arith)
 open_tree n t (InTwo op l K) le h = rw (nat_lt_lt (level op) n h)
 open_tree n t (InArgs c ts K) le h = refl
+open_tree n t (InIndex l K) le h = refl
 
 pub open_stack : (n : ℕ) (K : Stack) → n ≤ 5 → Below n K → closed_stack n K ≡ K
 open_stack n (Top d) le h = refl
@@ -101,6 +105,7 @@ open_stack n (InParen K) le h = refl
 open_stack n (InUnary u K) le h = absurd (omega arith)
 open_stack n (InTwo op l K) le h = rw (nat_lt_lt (level op) n h)
 open_stack n (InArgs c ts K) le h = refl
+open_stack n (InIndex l K) le h = refl
 
 pub below_more : (m n : ℕ) (K : Stack) → Below m K → m ≤ n → Below n K
 below_more m n (Top d) h le = tt
@@ -108,6 +113,7 @@ below_more m n (InParen K) h le = tt
 below_more m n (InUnary u K) h le = omega arith
 below_more m n (InTwo op l K) h le = omega arith
 below_more m n (InArgs c ts K) h le = tt
+below_more m n (InIndex l K) h le = tt
 
 pub below_seven : (K : Stack) → Below 7 K
 below_seven (Top d) = tt
@@ -115,6 +121,7 @@ below_seven (InParen K) = tt
 below_seven (InUnary u K) = omega arith
 below_seven (InTwo op l K) = omega (arith, level_small op)
 below_seven (InArgs c ts K) = tt
+below_seven (InIndex l K) = tt
 
 -- a sign takes its left operand
 pub sign_step : (op : Op) (t : ExprTree) (K : Stack) (p : Place) → Below (level op) K → step (Have t K) (sign_spot (op_sign op) p) ≡ Want (InTwo op t K)
@@ -129,6 +136,7 @@ stops_op op m t p rest h = subst (KindStops m t) (sym (kind_op op)) h
 pub kind_stops_more : (m n : ℕ) (t u : ExprTree) (k : Kind) → m ≤ n → (NotCallable t → NotCallable u) → KindStops m t k → KindStops n u k
 kind_stops_more m n t u (kind.Op op) le c h = omega arith
 kind_stops_more m n t u kind.Dot le c h = omega arith
+kind_stops_more m n t u kind.OpenSquare le c h = omega arith
 kind_stops_more m n t u kind.Open le c h = c h
 kind_stops_more m n t u _ le c h = tt
 
@@ -145,6 +153,7 @@ Follows n (x ∷ xs) = NotOpen (kind_of x.token) × KindStops (suc n) VoidExpr (
 kind_follows : (n : ℕ) (t : ExprTree) (k : Kind) → NotOpen k → KindStops (suc n) VoidExpr k → KindStops (suc n) t k
 kind_follows n t kind.Open h e = absurd h
 kind_follows n t kind.Dot h e = e
+kind_follows n t kind.OpenSquare h e = e
 kind_follows n t (kind.Op op) h e = e
 kind_follows n t _ h e = tt
 
@@ -190,6 +199,9 @@ starts {k} {d} (field p x of r e) =
     starts_more (spots_of of) (spots_of b) _ (ap spots_of e ∙ spots_append (begin (Node d) of) b ∙ ap (λ z. z ++ spots_of b) (spots_begin (Node d) of)) (starts r)
 starts {k} {d} (method p q s f of args r a e) =
     let b = sign_at sign.Dot p ∷ name_at f ∷ sign_at sign.OpenRound q ∷ (args ++ sign_at sign.CloseRound s ∷ []) in
+    starts_more (spots_of of) (spots_of b) _ (ap spots_of e ∙ spots_append (begin (Node d) of) b ∙ ap (λ z. z ++ spots_of b) (spots_begin (Node d) of)) (starts r)
+starts {k} {d} (index p q of at r a e) =
+    let b = sign_at sign.OpenSquare p ∷ (at ++ sign_at sign.CloseSquare q ∷ []) in
     starts_more (spots_of of) (spots_of b) _ (ap spots_of e ∙ spots_append (begin (Node d) of) b ∙ ap (λ z. z ++ spots_of b) (spots_begin (Node d) of)) (starts r)
 starts (negation p of le r e) = record { first = sign_spot sign.Not p; rest = spots_of of; is = ap spots_of e; begins = tt }
 starts (minus p of le r e) = record { first = sign_spot sign.Minus p; rest = spots_of of; is = ap spots_of e; begins = tt }
@@ -253,6 +265,18 @@ mutual
       ∙ reads r K (spots_of l ++ rest) (below_seven K) (tt, omega arith)
       ∙ ap (λ z. settle (feed (WantArgs (Method u h) K) z)) flat2
       ∙ reads_args a (Method u h) K s rest
+  reads {n} {d} (index {t = u} p q of at r a e) K rest b f =
+      let c = sign_spot sign.CloseSquare q in
+      let l = sign_at sign.OpenSquare p ∷ (at ++ sign_at sign.CloseSquare q ∷ []) in
+      let flat : spots_of (begin (Node d) of ++ l) ++ rest ≡ spots_of of ++ (spots_of l ++ rest) =
+      ap (λ z. z ++ rest) (spots_append (begin (Node d) of) l ∙ ap (λ z. z ++ spots_of l) (spots_begin (Node d) of)) ∙ append_assoc (spots_of of) (spots_of l) rest in
+      let flat2 : spots_of (at ++ sign_at sign.CloseSquare q ∷ []) ++ rest ≡ spots_of at ++ (c ∷ rest) =
+      ap (λ z. z ++ rest) (spots_append at (sign_at sign.CloseSquare q ∷ [])) ∙ append_assoc (spots_of at) (c ∷ []) rest in
+      ap (λ z. settle (feed (Want K) (spots_of z ++ rest))) e
+      ∙ ap (λ z. settle (feed (Want K) z)) flat
+      ∙ reads r K (spots_of l ++ rest) (below_seven K) (tt, omega arith)
+      ∙ ap (λ z. settle (feed (Want (InIndex u K)) z)) flat2
+      ∙ reads a (InIndex u K) (c ∷ rest) tt (tt, tt)
   reads {n} {d} (negation {t = t} p of le r e) K rest b f =
       ap (λ z. settle (feed (Want K) (spots_of z ++ rest))) e
       ∙ reads r (InUnary Negation K) rest (omega arith) (follows_more n 6 rest le f)

@@ -17,7 +17,7 @@ use Rattle.flow_tree.specs.declared.token.Spot.{Spot}
 use Rattle.flow_tree.specs.declared.expr.Op.{Op}
 use Rattle.flow_tree.specs.declared.expr.Op.TheVariants.{Sub}
 use Rattle.flow_tree.specs.declared.ty.Ident.{Ident}
-use Rattle.flow_tree.specs.Tree.{ByName, ExprTree, ExprTrees, IntExpr, TextExpr, BoolExpr, VoidExpr, VarExpr, CallExpr, FieldExpr, MethodExpr, NotExpr, NegExpr, BinaryExpr, ParenExpr, NoExprs, MoreExprs}
+use Rattle.flow_tree.specs.Tree.{ByName, indexed, ExprTree, ExprTrees, IntExpr, TextExpr, BoolExpr, VoidExpr, VarExpr, CallExpr, FieldExpr, MethodExpr, NotExpr, NegExpr, BinaryExpr, ParenExpr, NoExprs, MoreExprs}
 use Rattle.flow_tree.specs.declared.expr.Expr.{Expr}
 use Rattle.flow_tree.specs.View.{expr_of, exprs_of}
 use Rattle.flow_tree.specs.declared.token.Tokens.{Tokens}
@@ -30,7 +30,7 @@ use Rattle.flow_exprs.specs.declared.kind.Kind.TheVariants as kind
 use Rattle.flow_exprs.specs.declared.stop.Stop.{Stop}
 use Rattle.flow_exprs.specs.declared.stop.Stop.TheVariants.{Short, Deep, NoMemory}
 use Rattle.flow_exprs.specs.Kinds.{kind_of, sign_kind, kind_at}
-use Rattle.flow_exprs.specs.Machine.{leaf, word_leaf, name_bytes, ident, Head, Function, Method, called, Unary, Negation, Minus, unary, Stack, Top, InParen, InUnary, InTwo, InArgs, State, Want, Have, WantArgs, WantName, WantOpen, WantClose, Dead, push, closed_stack, step_kind, step, height, heights, head_height, hole, fits_stack, fits, Outcome, Ended, ShortAt, DeepAt, halt, turn, run, Below}
+use Rattle.flow_exprs.specs.Machine.{leaf, word_leaf, name_bytes, ident, Head, Function, Method, called, Unary, Negation, Minus, unary, Stack, Top, InParen, InUnary, InTwo, InArgs, InIndex, State, Want, Have, WantArgs, WantName, WantOpen, WantClose, Dead, push, closed_stack, step_kind, step, height, heights, head_height, hole, fits_stack, fits, Outcome, Ended, ShortAt, DeepAt, halt, turn, run, Below}
 use Rattle.flow_exprs.specs.Answer.{NotCallable, KindStops, Stops, Fit, ReadsExpr, Extends, ReadsArgs, Ends, Refuses, RefusesArgs, next_op, leaf_of_word, leaf_of, leaf_in, leaf_at, ident_of, ident_in, ident_at, NoSign, RefusalIs}
 use Rattle.flow_exprs.proofs.Sound.{heights_push, called_height, height_some}
 use Rattle.flow_exprs.proofs.Steps.{nat_lt_ge, level_small}
@@ -139,6 +139,8 @@ module _ (spots : List Spot) where
   begins_deep (kind.Op Sub) K x b h = (tt, and_false (hole K) 64 (fits_stack K) h)
   begins_deep (kind.Op _) K x b h = absurd b
   begins_deep kind.Close K x b h = absurd b
+  begins_deep kind.OpenSquare K x b h = absurd b
+  begins_deep kind.CloseSquare K x b h = absurd b
   begins_deep kind.Comma K x b h = absurd b
   begins_deep kind.Dot K x b h = absurd b
   begins_deep kind.Other K x b h = absurd b
@@ -156,6 +158,8 @@ module _ (spots : List Spot) where
   none_begins (kind.Op Sub) K x s b = absurd s
   none_begins (kind.Op _) K x s b = refl
   none_begins kind.Close K x s b = refl
+  none_begins kind.OpenSquare K x s b = refl
+  none_begins kind.CloseSquare K x s b = refl
   none_begins kind.Comma K x s b = refl
   none_begins kind.Dot K x s b = refl
   none_begins kind.Other K x s b = refl
@@ -175,6 +179,8 @@ module _ (spots : List Spot) where
   stops_eight t (Some kind.Open) c = c refl
   stops_eight t (Some (kind.Op op)) c = omega (arith, level_small op)
   stops_eight t (Some kind.Dot) c = omega arith
+  stops_eight t (Some kind.OpenSquare) c = omega arith
+  stops_eight t (Some kind.CloseSquare) c = tt
   stops_eight t (Some kind.Leaf) c = tt
   stops_eight t (Some kind.Name) c = tt
   stops_eight t (Some kind.Void) c = tt
@@ -183,18 +189,20 @@ module _ (spots : List Spot) where
   stops_eight t (Some kind.Not) c = tt
   stops_eight t (Some kind.Other) c = tt
 
-  stops_seven : (t : ExprTree) (o : Option Kind) → Stops 8 t o → (o ≡ Some kind.Dot → ⊥) → Stops 7 t o
-  stops_seven t None s c = tt
-  stops_seven t (Some kind.Open) s c = s
-  stops_seven t (Some (kind.Op op)) s c = omega (arith, level_small op)
-  stops_seven t (Some kind.Dot) s c = absurd (c refl)
-  stops_seven t (Some kind.Leaf) s c = tt
-  stops_seven t (Some kind.Name) s c = tt
-  stops_seven t (Some kind.Void) s c = tt
-  stops_seven t (Some kind.Close) s c = tt
-  stops_seven t (Some kind.Comma) s c = tt
-  stops_seven t (Some kind.Not) s c = tt
-  stops_seven t (Some kind.Other) s c = tt
+  stops_seven : (t : ExprTree) (o : Option Kind) → Stops 8 t o → (o ≡ Some kind.Dot → ⊥) → (o ≡ Some kind.OpenSquare → ⊥) → Stops 7 t o
+  stops_seven t None s c q = tt
+  stops_seven t (Some kind.Open) s c q = s
+  stops_seven t (Some (kind.Op op)) s c q = omega (arith, level_small op)
+  stops_seven t (Some kind.Dot) s c q = absurd (c refl)
+  stops_seven t (Some kind.OpenSquare) s c q = absurd (q refl)
+  stops_seven t (Some kind.CloseSquare) s c q = tt
+  stops_seven t (Some kind.Leaf) s c q = tt
+  stops_seven t (Some kind.Name) s c q = tt
+  stops_seven t (Some kind.Void) s c q = tt
+  stops_seven t (Some kind.Close) s c q = tt
+  stops_seven t (Some kind.Comma) s c q = tt
+  stops_seven t (Some kind.Not) s c q = tt
+  stops_seven t (Some kind.Other) s c q = tt
 
   some_none : (op : Op) → Some op ≡ None → ⊥
   some_none op h = cc
@@ -207,6 +215,8 @@ module _ (spots : List Spot) where
         | inr g ↦ absurd (some_none op (sym (ap (λ b. cond b None (Some op)) (nat_lt_ge (level op) n g)) ∙ h))
       ]
   stops_least n t (Some kind.Dot) le s h = absurd (omega arith)
+  stops_least n t (Some kind.OpenSquare) le s h = absurd (omega arith)
+  stops_least n t (Some kind.CloseSquare) le s h = tt
   stops_least n t (Some kind.Open) le s h = s
   stops_least n t (Some kind.Leaf) le s h = tt
   stops_least n t (Some kind.Name) le s h = tt
@@ -229,6 +239,8 @@ module _ (spots : List Spot) where
   op_is n (Some kind.Name) op h = absurd (cc)
   op_is n (Some kind.Void) op h = absurd (cc)
   op_is n (Some kind.Close) op h = absurd (cc)
+  op_is n (Some kind.OpenSquare) op h = absurd (cc)
+  op_is n (Some kind.CloseSquare) op h = absurd (cc)
   op_is n (Some kind.Comma) op h = absurd (cc)
   op_is n (Some kind.Not) op h = absurd (cc)
   op_is n (Some kind.Other) op h = absurd (cc)
@@ -450,6 +462,7 @@ module _ (spots : List Spot) where
   base_stuck t K kind.Close x s c = absurd (c refl)
   base_stuck t K kind.Open x s c = open_dead t (InParen K) s
   base_stuck t K kind.Dot x s c = absurd (omega arith)
+  base_stuck t K kind.OpenSquare x s c = absurd (omega arith)
   base_stuck t K (kind.Op op) x s c = absurd (omega arith)
   base_stuck t K _ x s c = refl
 
@@ -573,6 +586,49 @@ module _ (spots : List Spot) where
   method_refused j d t v s K h le n o r f = ends_is (run j (Have t K) (drop j spots)) (run (j + 3) (WantArgs (Method t v) K) (drop (j + 3) spots)) s
       (method_comes j d t v K h le n o f.depth_is f.fits_is) (r (Method t v) K (any_fit 7 6 d K (omega arith) f) (omega arith))
 
+  -- an index behind an expression
+  square_comes : (j d : ℕ) (t : ExprTree) (K : Stack) → kind_at spots j ≡ Some kind.OpenSquare → d + height t ≤ 64 → hole K ≡ d → fits_stack K ≡ true
+      → run j (Have t K) (drop j spots) ≡ run (j + 1) (Want (InIndex t K)) (drop (j + 1) spots)
+  square_comes j d t K h le hd fs = go j (Have t K) (Want (InIndex t K)) kind.OpenSquare h (λ x e. refl) tt (and_true (hole K + height t) 64 (fits_stack K) (omega arith) fs)
+
+  pub square_deep : (j d : ℕ) (t : ExprTree) (K : Stack) → kind_at spots j ≡ Some kind.OpenSquare → 64 < d + height t → hole K ≡ d → run j (Have t K) (drop j spots) ≡ DeepAt j
+  square_deep j d t K h lt hd = deep j (Have t K) kind.OpenSquare h (λ x. (tt, and_false (hole K + height t) 64 (fits_stack K) (omega arith)))
+
+  index_fit : (d : ℕ) (t : ExprTree) (K : Stack) → d + height t ≤ 64 → Fit 6 d K → Fit 0 (d + 1) (InIndex t K)
+  index_fit d t K le f = record { below = tt; depth_is = omega (arith, f.depth_is); fits_is = and_true (hole K + height t) 64 (fits_stack K) (omega (arith, f.depth_is)) f.fits_is }
+
+  index_stuck : (l t : ExprTree) (K : Stack) (k : Kind) (x : Spot) → KindStops 0 t k → (k ≡ kind.CloseSquare → ⊥) → step_kind (Have t (InIndex l K)) k x ≡ Dead
+  index_stuck l t K kind.CloseSquare x s c = absurd (c refl)
+  index_stuck l t K kind.Open x s c = open_dead t (InIndex l K) s
+  index_stuck l t K kind.Dot x s c = absurd (omega arith)
+  index_stuck l t K kind.OpenSquare x s c = absurd (omega arith)
+  index_stuck l t K (kind.Op op) x s c = absurd (omega arith)
+  index_stuck l t K _ x s c = refl
+
+  pub index_refused : (j d : ℕ) (t : ExprTree) (s : Stop) (K : Stack) → kind_at spots j ≡ Some kind.OpenSquare → d + height t ≤ 64 → Refuses spots (j + 1) 0 (d + 1) s → Fit 6 d K
+      → Ends (run j (Have t K) (drop j spots)) s
+  index_refused j d t s K h le r f = ends_is (run j (Have t K) (drop j spots)) (run (j + 1) (Want (InIndex t K)) (drop (j + 1) spots)) s
+      (square_comes j d t K h le f.depth_is f.fits_is) (r (InIndex t K) (index_fit d t K le f))
+
+  pub index_open : (j d : ℕ) (t u : ExprTree) (wide to : ℕ) (K : Stack) → kind_at spots j ≡ Some kind.OpenSquare → d + height t ≤ 64 → ReadsExpr spots (j + 1) 0 (d + 1) 0 u wide to
+      → (kind_at spots to ≡ Some kind.CloseSquare → ⊥) → Fit 6 d K → run j (Have t K) (drop j spots) ≡ ShortAt to
+  index_open j d t u wide to K h le r c f =
+      square_comes j d t K h le f.depth_is f.fits_is ∙ r.comes (InIndex t K) (index_fit d t K le f)
+      ∙ stuck to (Have u (InIndex t K)) (λ k x e. index_stuck t u K k x (stops_at 0 u to k r.stops e) (not_kind to kind.CloseSquare k c e))
+
+  pub index_goes : (j d : ℕ) (t u : ExprTree) (high wide to : ℕ) → kind_at spots j ≡ Some kind.OpenSquare → high ≡ height t → d + high ≤ 64 → ReadsExpr spots (j + 1) 0 (d + 1) 0 u wide to
+      → kind_at spots to ≡ Some kind.CloseSquare → Extends spots t j 6 d 8 (indexed t u) (max high wide + 1) (to + 1)
+  index_goes j d t u high wide to h hi le r c = record {
+    after = omega (arith, r.after);
+    within = omega (arith, kind_within to kind.CloseSquare c);
+    high_is = omega (arith, r.high_is);
+    fits_in = omega (arith, r.fits_in);
+    comes = λ K f. square_comes j d t K h (omega arith) f.depth_is f.fits_is ∙ r.comes (InIndex t K) (index_fit d t K (omega arith) f)
+        ∙ go to (Have u (InIndex t K)) (Have (indexed t u) K) kind.CloseSquare c (λ x e. refl) tt
+        (and_true (hole K + height (indexed t u)) 65 (fits_stack K) (omega (arith, r.high_is, r.fits_in, f.depth_is)) f.fits_is);
+    stops = stops_eight (indexed t u) (kind_at spots (to + 1)) (λ e. tt);
+  }
+
   -- a sign behind an operand
   sign_is : (op : Op) (t : ExprTree) (K : Stack) (x : Spot) → Below (level op) K → step_kind (Have t K) (kind.Op op) x ≡ Want (InTwo op t K)
   sign_is op t K x b = ap (λ w. Want (InTwo op w (closed_stack (level op) K))) (open_tree (level op) t K (level_small op) b)
@@ -648,8 +704,9 @@ module _ (spots : List Spot) where
   pub no_op : (i n d : ℕ) (t : ExprTree) (high to : ℕ) → n ≤ 6 → ReadsExpr spots i n d 7 t high to → next_op n (kind_at spots to) ≡ None → ReadsExpr spots i n d n t high to
   no_op i n d t high to le r h = record { after = r.after; within = r.within; high_is = r.high_is; fits_in = r.fits_in; comes = r.comes; stops = stops_least n t (kind_at spots to) le r.stops h }
 
-  pub no_dot : (i d : ℕ) (t : ExprTree) (high to : ℕ) → ReadsExpr spots i 6 d 8 t high to → (kind_at spots to ≡ Some kind.Dot → ⊥) → ReadsExpr spots i 6 d 7 t high to
-  no_dot i d t high to r h = record { after = r.after; within = r.within; high_is = r.high_is; fits_in = r.fits_in; comes = r.comes; stops = stops_seven t (kind_at spots to) r.stops h }
+  pub no_suffix : (i d : ℕ) (t : ExprTree) (high to : ℕ) → ReadsExpr spots i 6 d 8 t high to → (kind_at spots to ≡ Some kind.Dot → ⊥) → (kind_at spots to ≡ Some kind.OpenSquare → ⊥)
+      → ReadsExpr spots i 6 d 7 t high to
+  no_suffix i d t high to r h q = record { after = r.after; within = r.within; high_is = r.high_is; fits_in = r.fits_in; comes = r.comes; stops = stops_seven t (kind_at spots to) r.stops h q }
 
   -- the arguments of a call
   pub record Args (i d : ℕ) (ts : ExprTrees) (high at : ℕ) : Type 0 where
@@ -735,6 +792,7 @@ module _ (spots : List Spot) where
   args_stuck h ts t K kind.Comma x s c d = absurd (d refl)
   args_stuck h ts t K kind.Open x s c d = open_dead t (InArgs h ts K) s
   args_stuck h ts t K kind.Dot x s c d = absurd (omega arith)
+  args_stuck h ts t K kind.OpenSquare x s c d = absurd (omega arith)
   args_stuck h ts t K (kind.Op op) x s c d = absurd (omega arith)
   args_stuck h ts t K _ x s c d = refl
 
@@ -775,12 +833,19 @@ module _ (spots : List Spot) where
     | inr w ↦ op_begins w.0 (subst NoSign w.1 s) (subst (Begins spots) w.1 b)
   ])
 
-  pub others_refused : (i n d : ℕ) (k : Kind) → kind_at spots i ≡ Some k → NoSign k → ((k ≡ kind.Close) ⊎ ((k ≡ kind.Comma) ⊎ ((k ≡ kind.Dot) ⊎ (k ≡ kind.Other)))) → Refuses spots i n d (Short i)
+  pub others_refused : (i n d : ℕ) (k : Kind) → kind_at spots i ≡ Some k → NoSign k →
+      ((k ≡ kind.Close) ⊎ ((k ≡ kind.OpenSquare) ⊎ ((k ≡ kind.CloseSquare) ⊎ ((k ≡ kind.Comma) ⊎ ((k ≡ kind.Dot) ⊎ (k ≡ kind.Other)))))) → Refuses spots i n d (Short i)
   others_refused i n d k h s e = no_operand spots i n d k h s (λ b. elim e [
     | inl q ↦ subst (Begins spots) q b
     | inr w ↦ elim w [
       | inl q ↦ subst (Begins spots) q b
-      | inr v ↦ elim v [ inl q ↦ subst (Begins spots) q b | inr q ↦ subst (Begins spots) q b ]
+      | inr v ↦ elim v [
+        | inl q ↦ subst (Begins spots) q b
+        | inr u ↦ elim u [
+          | inl q ↦ subst (Begins spots) q b
+          | inr y ↦ elim y [ inl q ↦ subst (Begins spots) q b | inr q ↦ subst (Begins spots) q b ]
+        ]
+      ]
     ]
   ])
 
@@ -788,6 +853,7 @@ module _ (spots : List Spot) where
   top_stuck : (t : ExprTree) (d : ℕ) (k : Kind) (x : Spot) → KindStops 0 t k → step_kind (Have t (Top d)) k x ≡ Dead
   top_stuck t d kind.Open x s = open_dead t (Top d) s
   top_stuck t d kind.Dot x s = absurd (omega arith)
+  top_stuck t d kind.OpenSquare x s = absurd (omega arith)
   top_stuck t d (kind.Op op) x s = absurd (omega arith)
   top_stuck t d _ x s = refl
 

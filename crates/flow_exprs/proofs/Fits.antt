@@ -7,12 +7,12 @@ use Rattle.flow_tree.specs.declared.token.Word.TheVariants as word
 use Rattle.flow_tree.specs.declared.token.Sign.TheVariants as sign
 use Rattle.flow_tree.specs.declared.token.Spot.{Spot}
 use Rattle.flow_tree.specs.declared.expr.Op.{Op}
-use Rattle.flow_tree.specs.Tree.{ByName, ExprTree, ExprTrees, IntExpr, TextExpr, BoolExpr, VoidExpr, VarExpr, CallExpr, FieldExpr, MethodExpr, NotExpr, NegExpr, BinaryExpr, ParenExpr, NoExprs, MoreExprs}
+use Rattle.flow_tree.specs.Tree.{ByName, indexed, ExprTree, ExprTrees, IntExpr, TextExpr, BoolExpr, VoidExpr, VarExpr, CallExpr, FieldExpr, MethodExpr, NotExpr, NegExpr, BinaryExpr, ParenExpr, NoExprs, MoreExprs}
 use Rattle.flow_tree.specs.GrammarToken.{Part, Node, Marked, opens, begin, spots_of}
-use Rattle.flow_tree.specs.Grammar.{sign_at, name_at, node_sign, node_word, node_name, level, op_sign, ExprRule, number, text, truth, falsehood, void, variable, call, paren, field, method, negation, minus, binary, ArgsRule, no_args, some_args, MoreArgsRule, end_args, more_args}
+use Rattle.flow_tree.specs.Grammar.{sign_at, name_at, node_sign, node_word, node_name, level, op_sign, ExprRule, number, text, truth, falsehood, void, variable, call, paren, field, method, index, negation, minus, binary, ArgsRule, no_args, some_args, MoreArgsRule, end_args, more_args}
 use Rattle.flow_tree.proofs.GrammarLists.{spots_append, spots_begin}
 use Rattle.flow_exprs.specs.Kinds.{kind_of}
-use Rattle.flow_exprs.specs.Machine.{Head, Function, Method, called, Unary, Negation, Minus, unary, Stack, InParen, InUnary, InTwo, InArgs, State, Want, Have, WantArgs, WantName, WantOpen, WantClose, push, step, height, heights, head_height, hole, fits_stack, fits, Below}
+use Rattle.flow_exprs.specs.Machine.{Head, Function, Method, called, Unary, Negation, Minus, unary, Stack, InParen, InUnary, InTwo, InArgs, InIndex, State, Want, Have, WantArgs, WantName, WantOpen, WantClose, push, step, height, heights, head_height, hole, fits_stack, fits, Below}
 use Rattle.std.proofs.Common.{◌-◌, length, length-append}
 use Rattle.flow_tree.specs.GrammarToken.{AllInLimits}
 use Rattle.flow_exprs.proofs.Sound.{sign_spot, name_spot, join, join_push, join_none, heights_push, called_height, height_some}
@@ -194,6 +194,29 @@ mutual
       (subst (Along (w - 1 - 1 - 1) (WantArgs (Method t h) K)) flat2
       (fit_args a (Method t h) K s rest (omega arith) fs (omega arith) (omega (arith, height_some t)) (w - 1 - 1 - 1) k5.0 (λ o.
       along_is (j - length (begin (Node d) of ++ l)) (w - 1 - 1 - 1 - length args - 1) (Have (MethodExpr t (ByName h) ts) K) rest i (c (omega arith)))))))))))
+  fit {n} {d} {xs} (index {t = t} {i = v} p q of at r a e) K b hd fs j rest f =
+      let cl = sign_at sign.CloseSquare q ∷ [] in
+      let s = sign_spot sign.CloseSquare q in
+      let l = sign_at sign.OpenSquare p ∷ (at ++ cl) in
+      goal_is d (indexed t v) K j rest xs (begin (Node d) of ++ l) e (λ k c.
+      let flat : spots_of of ++ (spots_of l ++ rest) ≡ spots_of (begin (Node d) of ++ l) ++ rest =
+      sym (ap (λ z. z ++ rest) (spots_append (begin (Node d) of) l ∙ ap (λ z. z ++ spots_of l) (spots_begin (Node d) of)) ∙ append_assoc (spots_of of) (spots_of l) rest) in
+      let flat2 : spots_of at ++ (s ∷ rest) ≡ spots_of (at ++ cl) ++ rest = sym (ap (λ z. z ++ rest) (spots_append at cl) ∙ append_assoc (spots_of at) (s ∷ []) rest) in
+      let k1 = keep_append j (begin (Node d) of) l k in
+      let w = j - length (begin (Node d) of) in
+      let k2 = keep_first w (sign_at sign.OpenSquare p) (at ++ cl) k1.1 in
+      let k3 = keep_append (w - 1) at cl k2.1 in
+      let i0 : w ≡ j - length of = omega (arith, length_begin (Node d) of) in
+      let i : j - length (begin (Node d) of ++ l) ≡ w - 1 - length at - 1 = omega (arith, length-append (begin (Node d) of) l, length_begin (Node d) of, length-append at cl) in
+      subst (Along j (Want K)) flat
+      (fit r K (below_seven K) (omega arith) fs j (spots_of l ++ rest) (tt, omega arith) (keep_begin j (Node d) of k1.0) (λ m.
+      let fs' : nat_le (hole K + height t) 64 && fits_stack K ≡ true = and_true (hole K + height t) 64 (fits_stack K) (omega arith) fs in
+      along_is w (j - length of) (Have t K) (spots_of l ++ rest) i0
+      (along_step w (Have t K) (sign_spot sign.OpenSquare p) (spots_of (at ++ cl) ++ rest) (λ y. fs')
+      (subst (Along (w - 1) (Want (InIndex t K))) flat2
+      (fit a (InIndex t K) tt (omega arith) fs' (w - 1) (s ∷ rest) (tt, tt) k3.0 (λ o.
+      along_step (w - 1 - length at) (Have v (InIndex t K)) s rest (λ y. and_true (hole K + height (indexed t v)) 65 (fits_stack K) (omega arith) fs)
+      (along_is (j - length (begin (Node d) of ++ l)) (w - 1 - length at - 1) (Have (indexed t v) K) rest i (c (omega arith))))))))))
   fit {n} {d} {xs} (negation {t = t} p of le r e) K b hd fs j rest f = goal_is d (NotExpr t) K j rest xs (node_sign d sign.Not p ∷ of) e (λ k c.
       let k1 = keep_first j (node_sign d sign.Not p) of k in
       let i : j - suc (length of) ≡ j - 1 - length of = omega arith in

@@ -8,7 +8,7 @@ use Rattle.flow_tree.specs.Tree.{ExprTree, NotExpr, NegExpr, BinaryExpr}
 use Rattle.flow_tree.specs.GrammarToken.{Marked, spots_of, Keeps, Good}
 use Rattle.flow_tree.specs.Grammar.{level, ExprRule}
 use Rattle.flow_tree.proofs.GrammarLists.{spots_append}
-use Rattle.flow_exprs.specs.Machine.{Negation, Minus, Stack, Top, InParen, InUnary, InTwo, InArgs, State, Want, Have, WantArgs, WantName, WantOpen, WantClose, Dead, closed_tree, closed_stack, step, height, hole, fits_stack, fits}
+use Rattle.flow_exprs.specs.Machine.{Negation, Minus, Stack, Top, InParen, InUnary, InTwo, InArgs, InIndex, State, Want, Have, WantArgs, WantName, WantOpen, WantClose, Dead, closed_tree, closed_stack, step, height, hole, fits_stack, fits}
 use Rattle.std.proofs.Common.{◌-◌, length, take, drop}
 use Rattle.flow_base.proofs.Bools.{and_left, and_right, bool_cases}
 use Rattle.flow_tree.specs.declared.token.Tokens.{Tokens}
@@ -110,6 +110,7 @@ end_is k t (InParen K) u j h = absurd (cc)
 end_is k t (InUnary v K) u j h = absurd (cc)
 end_is k t (InTwo op l K) u j h = absurd (cc)
 end_is k t (InArgs c ts K) u j h = absurd (cc)
+end_is k t (InIndex l K) u j h = absurd (cc)
 
 -- closing keeps the limit
 closed_fits : (t : ExprTree) (K : Stack) → fits_stack K ≡ true → hole K + height t ≤ 65 → hole (closed_stack 0 K) + height (closed_tree 0 t K) ≤ 65
@@ -121,6 +122,7 @@ closed_fits t (InTwo op l K) f h =
     let b : hole K + height l ≤ 64 = le_true (hole K + height l) 64 (and_left (nat_le (hole K + height l) 64) (fits_stack K) f) in
     rw (nat_lt_ge (level op) 0 (omega arith)) (closed_fits (BinaryExpr op l t) K (and_right (nat_le (hole K + height l) 64) (fits_stack K) f) (omega arith))
 closed_fits t (InArgs c ts K) f h = h
+closed_fits t (InIndex l K) f h = h
 
 halt_ended : (base k : ℕ) (xs : List Spot) (S : State) (u : ExprTree) (j : ℕ) → feed (Want (Top base)) xs ≡ S → fits S ≡ true → halt k S ≡ Ended u j → (k ≡ j) × Derives (ExprRule 0 base) 5 xs u
 halt_ended base k xs (Have t K) u j e f h =
@@ -215,6 +217,7 @@ halt_deep k (Have t K) j h = end_deep k (closed_tree 0 t K) (closed_stack 0 K) j
     end_deep k t (InUnary v K) j h = cc
     end_deep k t (InTwo op l K) j h = cc
     end_deep k t (InArgs c ts K) j h = cc
+    end_deep k t (InIndex l K) j h = cc
 halt_deep k (Want K) j h = cc
 halt_deep k (WantArgs c K) j h = cc
 halt_deep k (WantName t K) j h = cc
@@ -231,6 +234,7 @@ short_at k (Have t K) j h = end_short k (closed_tree 0 t K) (closed_stack 0 K) j
     end_short k t (InUnary v K) j h = cc
     end_short k t (InTwo op l K) j h = cc
     end_short k t (InArgs c ts K) j h = cc
+    end_short k t (InIndex l K) j h = cc
 short_at k (Want K) j h = cc
 short_at k (WantArgs c K) j h = cc
 short_at k (WantName t K) j h = cc

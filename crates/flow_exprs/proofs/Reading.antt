@@ -11,15 +11,15 @@ use Rattle.flow_tree.specs.declared.token.Sign.TheVariants as sign
 use Rattle.flow_tree.specs.declared.token.Spot.{Spot}
 use Rattle.flow_tree.specs.declared.expr.Op.{Op}
 use Rattle.flow_tree.specs.declared.expr.Op.TheVariants.{Sub}
-use Rattle.flow_tree.specs.Tree.{ExprTree, ExprTrees, IntExpr, TextExpr, BoolExpr, VoidExpr, VarExpr, CallExpr, FieldExpr, MethodExpr, NotExpr, NegExpr, BinaryExpr, ParenExpr, NoExprs}
+use Rattle.flow_tree.specs.Tree.{indexed, ExprTree, ExprTrees, IntExpr, TextExpr, BoolExpr, VoidExpr, VarExpr, CallExpr, FieldExpr, MethodExpr, NotExpr, NegExpr, BinaryExpr, ParenExpr, NoExprs}
 use Rattle.flow_tree.specs.GrammarToken.{Node, Marked, begin, spots_of, Keeps, Good}
-use Rattle.flow_tree.specs.Grammar.{sign_at, node_sign, level, op_sign, ExprRule, paren, negation, minus, binary, ArgsRule, end_args}
+use Rattle.flow_tree.specs.Grammar.{sign_at, node_sign, level, op_sign, ExprRule, paren, index, negation, minus, binary, ArgsRule, end_args}
 use Rattle.flow_tree.proofs.GrammarLists.{spots_append, spots_begin, keeps_append, keeps_begin}
 use Rattle.flow_exprs.specs.declared.kind.Kind.{Kind}
 use Rattle.flow_exprs.specs.declared.kind.Kind.TheVariants as kind
 use Rattle.flow_exprs.specs.Kinds.{kind_of}
-use Rattle.flow_exprs.specs.Machine.{ident, Head, Function, Method, called, Negation, Minus, Stack, Top, InParen, InUnary, InTwo, InArgs, State, Want, Have, WantArgs, WantName, WantOpen, WantClose, Dead, push, closed_tree, closed_stack, after_close, after_comma, after_open, sign_first, step_kind, step, height, heights, head_height, hole, fits_stack}
-use Rattle.flow_exprs.proofs.Sound.{spot, sign_spot, name_spot, Front, need, CallOwn, HaveRead, HasRead, KindSpot, kind_spot, join_none, height_some, field_own, paren_own, void_own, name_own}
+use Rattle.flow_exprs.specs.Machine.{ident, Head, Function, Method, called, Negation, Minus, Stack, Top, InParen, InUnary, InTwo, InArgs, InIndex, State, Want, Have, WantArgs, WantName, WantOpen, WantClose, Dead, push, closed_tree, closed_stack, after_close, after_square, after_comma, after_open, sign_first, step_kind, step, height, heights, head_height, hole, fits_stack}
+use Rattle.flow_exprs.proofs.Sound.{spot, sign_spot, name_spot, Front, need, CallOwn, HaveRead, HasRead, KindSpot, kind_spot, join_none, height_some, field_own, index_own, paren_own, void_own, name_own}
 use Rattle.flow_exprs.proofs.Steps.{Closed, closed, level_small, need_small, need_below, first_args, next_args, call_none, call_some, function_head, method_head}
 
 called_callee : (h : Head) (ts : ExprTrees) (toks : List Spot) → CallOwn (called h ts) toks
@@ -51,6 +51,25 @@ close_step base t (InArgs h ts K) toks x p e c =
       callee = called_callee h (push ts t) (s.1 ++ ((s.2 ++ c.own) ++ sign_spot sign.CloseRound p ∷ []));
       is = ap (λ y. toks ++ spot y p ∷ []) e ∙ ap (λ z. z ++ sign_spot sign.CloseRound p ∷ []) (c.is ∙ ap (λ z. z ++ c.own) s.6) ∙ simp append_assoc;
     }
+close_step base t (InIndex l K) toks x p e c = tt
+
+square_step : (base : ℕ) (t : ExprTree) (K : Stack) (toks : List Spot) (x : Token) (p : Place) → x ≡ token.Sign sign.CloseSquare → Closed base 0 t K toks
+    → HasRead base (after_square t K) (toks ++ spot x p ∷ [])
+square_step base t (Top d) toks x p e c = tt
+square_step base t (InParen K) toks x p e c = tt
+square_step base t (InUnary u K) toks x p e c = tt
+square_step base t (InTwo op l K) toks x p e c = tt
+square_step base t (InArgs h ts K) toks x p e c = tt
+square_step base t (InIndex l K) toks x p e c =
+    let s = c.stack in
+    record {
+      front = s.0;
+      own = s.1 ++ (sign_spot sign.OpenSquare s.2 ∷ (c.own ++ sign_spot sign.CloseSquare p ∷ []));
+      stack = s.3;
+      rule = λ m d. index_own m d s.2 p s.1 c.own l t (s.4 7 (suc d)) (c.rule (suc d));
+      callee = tt;
+      is = ap (λ y. toks ++ spot y p ∷ []) e ∙ ap (λ z. z ++ sign_spot sign.CloseSquare p ∷ []) (c.is ∙ ap (λ z. z ++ c.own) s.5) ∙ simp append_assoc;
+    }
 
 comma_step : (base : ℕ) (t : ExprTree) (K : Stack) (toks : List Spot) (x : Token) (p : Place) → x ≡ token.Sign sign.Comma → Closed base 0 t K toks
     → HasRead base (after_comma t K) (toks ++ spot x p ∷ [])
@@ -68,6 +87,7 @@ comma_step base t (InArgs h ts K) toks x p e c =
       (λ d. next_args d ts t s.2 c.own p (s.5 d) (c.rule d)),
       ap (λ y. toks ++ spot y p ∷ []) e ∙ ap (λ z. z ++ sign_spot sign.Comma p ∷ []) (c.is ∙ ap (λ z. z ++ c.own) s.6) ∙ simp append_assoc,
     )
+comma_step base t (InIndex l K) toks x p e c = tt
 
 open_step : (base : ℕ) (t : ExprTree) (K : Stack) (toks : List Spot) (x : Token) (p : Place) → x ≡ token.Sign sign.OpenRound → HaveRead base t K toks
     → HasRead base (after_open t K) (toks ++ spot x p ∷ [])
@@ -112,6 +132,8 @@ want_step base K kind.Open toks x p e f = (toks, p, f, ap (λ y. toks ++ spot y 
 want_step base K kind.Not toks x p e f = (toks, p, f, ap (λ y. toks ++ spot y p ∷ []) e)
 want_step base K (kind.Op op) toks x p e f = first_sign base op K toks x p e f
 want_step base K kind.Close toks x p e f = tt
+want_step base K kind.OpenSquare toks x p e f = tt
+want_step base K kind.CloseSquare toks x p e f = tt
 want_step base K kind.Comma toks x p e f = tt
 want_step base K kind.Dot toks x p e f = tt
 want_step base K kind.Other toks x p e f = tt
@@ -120,6 +142,15 @@ have_step : (base : ℕ) (t : ExprTree) (K : Stack) (k : Kind) (toks : List Spot
     → HasRead base (step_kind (Have t K) k (spot x p)) (toks ++ spot x p ∷ [])
 have_step base t K kind.Open toks x p e h = open_step base t K toks x p e h
 have_step base t K kind.Close toks x p e h = close_step base (closed_tree 0 t K) (closed_stack 0 K) toks x p e (closed base 0 t K toks (omega arith) h)
+have_step base t K kind.OpenSquare toks x p e h = (
+  h.front,
+  h.own,
+  p,
+  h.stack,
+  h.rule,
+  ap (λ y. toks ++ spot y p ∷ []) e ∙ ap (λ z. z ++ sign_spot sign.OpenSquare p ∷ []) h.is ∙ append_assoc h.front h.own (sign_spot sign.OpenSquare p ∷ []),
+)
+have_step base t K kind.CloseSquare toks x p e h = square_step base (closed_tree 0 t K) (closed_stack 0 K) toks x p e (closed base 0 t K toks (omega arith) h)
 have_step base t K kind.Comma toks x p e h = comma_step base (closed_tree 0 t K) (closed_stack 0 K) toks x p e (closed base 0 t K toks (omega arith) h)
 have_step base t K kind.Dot toks x p e h = (
   h.front,
@@ -160,6 +191,8 @@ args_step base h K kind.Void toks x p e f = want_step base (InArgs h NoExprs K) 
 args_step base h K kind.Open toks x p e f = want_step base (InArgs h NoExprs K) kind.Open toks x p e (args_front base h K toks f)
 args_step base h K kind.Not toks x p e f = want_step base (InArgs h NoExprs K) kind.Not toks x p e (args_front base h K toks f)
 args_step base h K (kind.Op op) toks x p e f = want_step base (InArgs h NoExprs K) (kind.Op op) toks x p e (args_front base h K toks f)
+args_step base h K kind.OpenSquare toks x p e f = tt
+args_step base h K kind.CloseSquare toks x p e f = tt
 args_step base h K kind.Comma toks x p e f = tt
 args_step base h K kind.Dot toks x p e f = tt
 args_step base h K kind.Other toks x p e f = tt
@@ -262,6 +295,21 @@ plug n base (InTwo op l K) front f h t read rest r k =
     let e : a ++ spots_of (left ++ (sign_at (op_sign op) p ∷ read)) ≡ front ++ spots_of read =
     ap (λ z. a ++ z) (spots_append left (sign_at (op_sign op) p ∷ read) ∙ ap (λ z. z ++ (sign_spot (op_sign op) p ∷ spots_of read)) (spots_begin (Node (hole K)) o.marked ∙ o.is))
     ∙ sym (ap (λ z. z ++ spots_of read) f.6 ∙ simp append_assoc) in
+    subst (Good (ExprRule 0 base) n) e g
+plug n base (InIndex l K) front f h t read rest r k =
+    let a = f.0 in let p = f.2 in
+    let o = f.4 7 (suc (hole K)) in
+    let le : 5 ≤ n → hole K + height l ≤ 64 = λ i. le_true (hole K + height l) 64 (and_left (nat_le (hole K + height l) 64) (fits_stack K) (h i)) in
+    let left = begin (Node (hole K)) o.marked in
+    let opening = sign_at sign.OpenSquare p ∷ read in
+    let shut = sign_at sign.CloseSquare p ∷ [] in
+    let flat : (left ++ opening) ++ (rest ++ shut) ≡ left ++ (sign_at sign.OpenSquare p ∷ ((read ++ rest) ++ shut)) = simp append_assoc in
+    let g = plug n base K a f.3 (λ i. and_right (nat_le (hole K + height l) 64) (fits_stack K) (h i)) (indexed l t) (left ++ opening) (rest ++ shut)
+    (index p p o.marked (read ++ rest) o.rule r flat)
+    (keeps_append n left opening (keeps_begin n (Node (hole K)) o.marked (λ i. omega (arith, le i, height_some l)) (o.keeps n (λ i. omega (arith, le i)))) (tt, k)) in
+    let e : a ++ spots_of (left ++ opening) ≡ front ++ spots_of read =
+    ap (λ z. a ++ z) (spots_append left opening ∙ ap (λ z. z ++ (sign_spot sign.OpenSquare p ∷ spots_of read)) (spots_begin (Node (hole K)) o.marked ∙ o.is))
+    ∙ sym (ap (λ z. z ++ spots_of read) f.5 ∙ simp append_assoc) in
     subst (Good (ExprRule 0 base) n) e g
 plug n base (InArgs c ts K) front f h t read rest r k =
     let a = f.0 in let b = f.1 in

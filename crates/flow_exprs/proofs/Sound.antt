@@ -10,14 +10,14 @@ use Rattle.flow_tree.specs.declared.token.Sign.TheVariants as sign
 use Rattle.flow_tree.specs.declared.token.Spot.{Spot}
 use Rattle.flow_tree.specs.declared.expr.Op.{Op}
 use Rattle.flow_tree.specs.declared.ty.Ident.{Ident}
-use Rattle.flow_tree.specs.Tree.{ExprTree, ExprTrees, IntExpr, TextExpr, BoolExpr, VoidExpr, VarExpr, CallExpr, FieldExpr, MethodExpr, NotExpr, NegExpr, BinaryExpr, ParenExpr, NoExprs, MoreExprs}
+use Rattle.flow_tree.specs.Tree.{indexed, ExprTree, ExprTrees, IntExpr, TextExpr, BoolExpr, VoidExpr, VarExpr, CallExpr, FieldExpr, MethodExpr, NotExpr, NegExpr, BinaryExpr, ParenExpr, NoExprs, MoreExprs}
 use Rattle.flow_tree.specs.GrammarToken.{Node, Marked, opens, begin, spots_of, Keeps}
-use Rattle.flow_tree.specs.Grammar.{sign_at, name_at, node_sign, node_word, node_name, level, op_sign, ExprRule, number, text, truth, falsehood, void, variable, paren, field, negation, minus, binary, ArgsRule, MoreArgsRule}
+use Rattle.flow_tree.specs.Grammar.{sign_at, name_at, node_sign, node_word, node_name, level, op_sign, ExprRule, number, text, truth, falsehood, void, variable, paren, field, index, negation, minus, binary, ArgsRule, MoreArgsRule}
 use Rattle.flow_tree.proofs.GrammarLists.{spots_append, spots_begin, keeps_append, keeps_begin}
 use Rattle.flow_exprs.specs.declared.kind.Kind.{Kind}
 use Rattle.flow_exprs.specs.declared.kind.Kind.TheVariants as kind
 use Rattle.flow_exprs.specs.Kinds.{kind_of, sign_kind, word_kind}
-use Rattle.flow_exprs.specs.Machine.{leaf, name_bytes, Head, Function, Method, called, Negation, Minus, Stack, Top, InParen, InUnary, InTwo, InArgs, State, Want, Have, WantArgs, WantName, WantOpen, WantClose, Dead, push, height, heights, head_height, Below}
+use Rattle.flow_exprs.specs.Machine.{leaf, name_bytes, Head, Function, Method, called, Negation, Minus, Stack, Top, InParen, InUnary, InTwo, InArgs, InIndex, State, Want, Have, WantArgs, WantName, WantOpen, WantClose, Dead, push, height, heights, head_height, Below}
 
 abbrev pub spot : Token → Place → Spot
 spot t p = record { token = t; at = p }
@@ -77,6 +77,7 @@ Front base (InUnary Negation K) toks = (a : List Spot) × (p : Place) × Front b
 Front base (InUnary Minus K) toks = (a : List Spot) × (p : Place) × Front base K a × (toks ≡ a ++ sign_spot sign.Minus p ∷ [])
 Front base (InTwo op l K) toks = (a b : List Spot) × (p : Place) × Front base K a × ((d : ℕ) → Own (level op) d b l) × Below (level op) K × (toks ≡ a ++ (b ++ sign_spot (op_sign op) p ∷ []))
 Front base (InArgs h ts K) toks = (a b c : List Spot) × Front base K a × ((d : ℕ) → HeadOwn d b h) × ((d : ℕ) → ArgsOwn d c ts) × (toks ≡ a ++ (b ++ c))
+Front base (InIndex l K) toks = (a b : List Spot) × (p : Place) × Front base K a × ((m d : ℕ) → Own m d b l) × (toks ≡ a ++ (b ++ sign_spot sign.OpenSquare p ∷ []))
 
 -- the level that an operand needs
 abbrev pub need : Stack → ℕ
@@ -85,6 +86,7 @@ need (InParen K) = 0
 need (InUnary u K) = 6
 need (InTwo op l K) = suc (level op)
 need (InArgs h ts K) = 0
+need (InIndex l K) = 0
 
 -- what an opening bracket would call
 abbrev pub CallOwn : ExprTree → List Spot → Type 0
@@ -162,6 +164,21 @@ field_own m d p x a t o = record {
       (keeps_begin n (Node d) o.marked (λ i. omega (arith, h i, height_some t)) (o.keeps n (λ i. omega (arith, h i)))) (tt, (tt, tt));
 }
 
+pub index_own : (m d : ℕ) (p q : Place) (a b : List Spot) (l t : ExprTree) → Own 7 (suc d) a l → Own 0 (suc d) b t
+    → Own m d (a ++ (sign_spot sign.OpenSquare p ∷ (b ++ sign_spot sign.CloseSquare q ∷ []))) (indexed l t)
+index_own m d p q a b l t x y =
+    let shut = sign_at sign.CloseSquare q ∷ [] in
+    record {
+      marked = begin (Node d) x.marked ++ (sign_at sign.OpenSquare p ∷ (y.marked ++ shut));
+      rule = index p q x.marked y.marked x.rule y.rule refl;
+      is = spots_append (begin (Node d) x.marked) (sign_at sign.OpenSquare p ∷ (y.marked ++ shut))
+          ∙ ap (λ z. z ++ (sign_spot sign.OpenSquare p ∷ spots_of (y.marked ++ shut))) (spots_begin (Node d) x.marked ∙ x.is)
+          ∙ ap (λ z. a ++ (sign_spot sign.OpenSquare p ∷ z)) (spots_append y.marked shut ∙ ap (λ z. z ++ sign_spot sign.CloseSquare q ∷ []) y.is);
+      keeps = λ n h. keeps_append n (begin (Node d) x.marked) (sign_at sign.OpenSquare p ∷ (y.marked ++ shut))
+          (keeps_begin n (Node d) x.marked (λ i. omega (arith, h i, height_some l)) (x.keeps n (λ i. omega (arith, h i))))
+          (tt, keeps_append n y.marked shut (y.keeps n (λ i. omega (arith, h i))) (tt, tt));
+    }
+
 pub paren_own : (m d : ℕ) (p q : Place) (a : List Spot) (t : ExprTree) → Own 0 (suc d) a t → Own m d (sign_spot sign.OpenRound p ∷ (a ++ sign_spot sign.CloseRound q ∷ [])) (ParenExpr t)
 paren_own m d p q a t o = record {
   marked = node_sign d sign.OpenRound p ∷ (o.marked ++ sign_at sign.CloseRound q ∷ []);
@@ -188,6 +205,8 @@ KindSpot kind.Name x p = x ≡ token.Name (name_bytes x)
 KindSpot kind.Void x p = x ≡ token.Word word.Void
 KindSpot kind.Open x p = x ≡ token.Sign sign.OpenRound
 KindSpot kind.Close x p = x ≡ token.Sign sign.CloseRound
+KindSpot kind.OpenSquare x p = x ≡ token.Sign sign.OpenSquare
+KindSpot kind.CloseSquare x p = x ≡ token.Sign sign.CloseSquare
 KindSpot kind.Comma x p = x ≡ token.Sign sign.Comma
 KindSpot kind.Dot x p = x ≡ token.Sign sign.Dot
 KindSpot kind.Not x p = x ≡ token.Sign sign.Not
@@ -203,6 +222,8 @@ word_spot _ p = tt
 sign_is : (s : Sign) (p : Place) → KindSpot (sign_kind s) (token.Sign s) p
 sign_is sign.OpenRound p = refl
 sign_is sign.CloseRound p = refl
+sign_is sign.OpenSquare p = refl
+sign_is sign.CloseSquare p = refl
 sign_is sign.Less p = refl
 sign_is sign.Greater p = refl
 sign_is sign.Comma p = refl

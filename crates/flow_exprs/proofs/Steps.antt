@@ -13,7 +13,7 @@ use Rattle.flow_tree.specs.Tree.{ExprTree, ExprTrees, BinaryExpr, NoExprs, MoreE
 use Rattle.flow_tree.specs.GrammarToken.{Node, begin, spots_of}
 use Rattle.flow_tree.specs.Grammar.{sign_at, name_at, node_name, level, op_sign, call, method, ArgsRule, no_args, some_args, end_args, more_args}
 use Rattle.flow_tree.proofs.GrammarLists.{spots_append, spots_begin, keeps_append, keeps_begin}
-use Rattle.flow_exprs.specs.Machine.{Head, Function, Method, called, Unary, Negation, Minus, unary, Stack, Top, InParen, InUnary, InTwo, InArgs, push, closed_tree, closed_stack, Below}
+use Rattle.flow_exprs.specs.Machine.{Head, Function, Method, called, Unary, Negation, Minus, unary, Stack, Top, InParen, InUnary, InTwo, InArgs, InIndex, push, closed_tree, closed_stack, Below}
 use Rattle.flow_exprs.proofs.Sound.{sign_spot, name_spot, Own, HeadOwn, ArgsOwn, Front, need, HaveRead, join, join_push, join_none, heights_push, called_height, height_some, not_own, minus_own, two_own}
 
 pub nat_lt_ge : (a b : ℕ) → b ≤ a → nat_lt a b ≡ false
@@ -43,6 +43,7 @@ need_small (InParen K) = omega arith
 need_small (InUnary u K) = omega arith
 need_small (InTwo op l K) = omega (arith, level_small op)
 need_small (InArgs h ts K) = omega arith
+need_small (InIndex l K) = omega arith
 
 pub need_below : (m : ℕ) (K : Stack) → Below m K → need K ≤ m
 need_below m (Top d) b = omega arith
@@ -50,6 +51,7 @@ need_below m (InParen K) b = omega arith
 need_below m (InUnary u K) b = b
 need_below m (InTwo op l K) b = omega arith
 need_below m (InArgs h ts K) b = omega arith
+need_below m (InIndex l K) b = omega arith
 
 -- what closing a level leaves: an operand of that level, over a stack below it
 pub record Closed (base n : ℕ) (t : ExprTree) (K : Stack) (toks : List Spot) : Type 0 where
@@ -70,6 +72,7 @@ pub closes : (base n : ℕ) (t : ExprTree) (K : Stack) (toks front own : List Sp
 closes base n t (Top d) toks front own le e f r q = record { front = front; own = own; stack = f; below = tt; rule = r; is = e }
 closes base n t (InParen K) toks front own le e f r q = record { front = front; own = own; stack = f; below = tt; rule = r; is = e }
 closes base n t (InArgs h ts K) toks front own le e f r q = record { front = front; own = own; stack = f; below = tt; rule = r; is = e }
+closes base n t (InIndex l K) toks front own le e f r q = record { front = front; own = own; stack = f; below = tt; rule = r; is = e }
 closes base n t (InUnary u K) toks front own le e f r q =
     let v = unary_front base u K front f in
     let e' : toks ≡ v.0 ++ (v.1 ∷ own) = e ∙ ap (λ x. x ++ own) v.3 ∙ append_assoc v.0 (v.1 ∷ []) own in

@@ -14,11 +14,11 @@ use Rattle.flow_tree.specs.declared.token.Spot.{Spot}
 use Rattle.flow_tree.specs.declared.token.Tokens.{Tokens}
 use Rattle.flow_tree.specs.Tree.{TypeTree, IntType, BoolType, StringType, VoidType, ErrorType, NamedType}
 use Rattle.flow_tree.specs.GrammarToken.{Node, Marked, spots_of, AllInLimits, Keeps, Good, Derives}
-use Rattle.flow_tree.specs.Grammar.{sign_at, node_word, node_name, Wrapper, FutureOf, FutureStreamOf, PromiseOf, PromiseStreamOf, wrapper_word, wrapped, TypeRule, int_type, bool_type, string_type, void_type, error_type, named_type, wrapped_type}
+use Rattle.flow_tree.specs.Grammar.{sign_at, node_word, node_name, Wrapper, FutureOf, FutureStreamOf, PromiseOf, PromiseStreamOf, VectorOf, wrapper_word, wrapped, TypeRule, int_type, bool_type, string_type, void_type, error_type, named_type, wrapped_type}
 use Rattle.flow_tree.specs.GrammarAnswer.{place_at, ReadsAll, IsRead, IsMissing, IsTooDeep}
 use Rattle.flow_tree.proofs.GrammarLists.{spots_append, keeps_append}
 use Rattle.flow_exprs.specs.declared.ty.TypeKind.{TypeKind}
-use Rattle.flow_exprs.specs.declared.ty.TypeKind.TheVariants.{Plain, Future, FutureStream, Promise, PromiseStream, Less, Greater, Other}
+use Rattle.flow_exprs.specs.declared.ty.TypeKind.TheVariants.{Plain, Future, FutureStream, Promise, PromiseStream, Vector, Less, Greater, Other}
 use Rattle.flow_exprs.specs.TypeMachine.{type_word_kind, type_sign_kind, type_kind_of, plain_of, type_or_void, Around, Bottom, Inside, TypeState, WantType, WantLess, HaveType, DeadType, type_greater, type_step_kind, type_step, type_height, type_hole, around_fits, type_fits, TypeOutcome, TypeEnded, TypeShort, TypeDeep, type_halt, type_turn, type_run}
 use Rattle.flow_exprs.proofs.Sound.{spot, sign_spot}
 use Rattle.flow_exprs.proofs.Reading.{le_true}
@@ -40,6 +40,7 @@ wrapped_height FutureOf t = refl
 wrapped_height FutureStreamOf t = refl
 wrapped_height PromiseOf t = refl
 wrapped_height PromiseStreamOf t = refl
+wrapped_height VectorOf t = refl
 
 wrapped_own : (d : ℕ) (w : Wrapper) (p q r : Place) (toks : List Spot) (t : TypeTree) → OwnType (suc d) toks t
     → OwnType d (word_spot (wrapper_word w) p ∷ sign_spot sign.Less q ∷ (toks ++ sign_spot sign.Greater r ∷ [])) (wrapped w t)
@@ -73,6 +74,7 @@ TypeSpot Future x p = x ≡ token.Word word.Future
 TypeSpot FutureStream x p = x ≡ token.Word word.FutureStream
 TypeSpot Promise x p = x ≡ token.Word word.Promise
 TypeSpot PromiseStream x p = x ≡ token.Word word.PromiseStream
+TypeSpot Vector x p = x ≡ token.Word word.Vector
 TypeSpot Less x p = x ≡ token.Sign sign.Less
 TypeSpot Greater x p = x ≡ token.Sign sign.Greater
 TypeSpot Other x p = Unit {0}
@@ -87,6 +89,7 @@ word_type_spot word.Future p = refl
 word_type_spot word.FutureStream p = refl
 word_type_spot word.Promise p = refl
 word_type_spot word.PromiseStream p = refl
+word_type_spot word.Vector p = refl
 word_type_spot _ p = tt
 
 sign_type_spot : (s : Sign) (p : Place) → TypeSpot (type_sign_kind s) (token.Sign s) p
@@ -126,6 +129,7 @@ type_kind_step base (WantType K) Future toks x p e f = (toks, p, f, ap (λ y. to
 type_kind_step base (WantType K) FutureStream toks x p e f = (toks, p, f, ap (λ y. toks ++ spot y p ∷ []) e)
 type_kind_step base (WantType K) Promise toks x p e f = (toks, p, f, ap (λ y. toks ++ spot y p ∷ []) e)
 type_kind_step base (WantType K) PromiseStream toks x p e f = (toks, p, f, ap (λ y. toks ++ spot y p ∷ []) e)
+type_kind_step base (WantType K) Vector toks x p e f = (toks, p, f, ap (λ y. toks ++ spot y p ∷ []) e)
 type_kind_step base (WantType K) _ toks x p e f = tt
 type_kind_step base (WantLess w K) Less toks x p e f = (
   f.0,
@@ -202,6 +206,7 @@ wrapper_step FutureOf K p = refl
 wrapper_step FutureStreamOf K p = refl
 wrapper_step PromiseOf K p = refl
 wrapper_step PromiseStreamOf K p = refl
+wrapper_step VectorOf K p = refl
 
 inner_flat : (w : Wrapper) (d : ℕ) (p q r : Place) (of : List Marked) (rest : List Spot)
     → spots_of (node_word d (wrapper_word w) p ∷ sign_at sign.Less q ∷ (of ++ sign_at sign.Greater r ∷ [])) ++ rest ≡ word_spot (wrapper_word w) p ∷ sign_spot sign.Less q

@@ -170,6 +170,7 @@ module _ (spots : List Spot) where
   wrapper_step kind.FutureStream K x w = refl
   wrapper_step kind.Promise K x w = refl
   wrapper_step kind.PromiseStream K x w = refl
+  wrapper_step kind.Vector K x w = refl
   wrapper_step _ K x w = absurd w
 
   pub argument_deep : (i d : ℕ) (k : TypeKind) → type_kind_at spots i ≡ Some k → IsWrapper k → 64 < d → RefusesType spots i d (Deep i)

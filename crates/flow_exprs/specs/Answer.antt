@@ -29,7 +29,7 @@ use Rattle.flow_exprs.specs.Kinds.{kind_at}
 use Rattle.flow_exprs.specs.Machine.{Stack, Want, Have, Head, WantArgs, called, height, heights, head_height, hole, fits_stack, Outcome, ShortAt, DeepAt, run, Below}
 use Rattle.flow_tree.specs.declared.limits.TheConstants.{DEPTH}
 
--- the level of what not even a dot splits
+-- the level of what not even a dot or an index splits
 abbrev pub primary_level : ℕ
 primary_level = suc dot_level
 
@@ -43,6 +43,7 @@ NotCallable _ = Unit {0}
 abbrev pub KindStops : ℕ → ExprTree → Kind → Type 0
 KindStops m t (kind.Op op) = level op < m
 KindStops m t kind.Dot = dot_level < m
+KindStops m t kind.OpenSquare = dot_level < m
 KindStops m t kind.Open = NotCallable t
 KindStops m t _ = Unit {0}
 

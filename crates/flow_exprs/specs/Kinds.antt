@@ -11,11 +11,13 @@ use Rattle.flow_tree.specs.declared.token.Sign.TheVariants as sign
 use Rattle.flow_tree.specs.declared.token.Spot.{Spot}
 use Rattle.flow_tree.specs.declared.expr.Op.TheVariants.{Or, And, Eq, Ne, Lt, Le, Gt, Ge, Add, Sub, Mul, Div, Rem}
 use Rattle.flow_exprs.specs.declared.kind.Kind.{Kind}
-use Rattle.flow_exprs.specs.declared.kind.Kind.TheVariants.{Leaf, Name, Void, Open, Close, Comma, Dot, Not, Op, Other}
+use Rattle.flow_exprs.specs.declared.kind.Kind.TheVariants.{Leaf, Name, Void, Open, Close, OpenSquare, CloseSquare, Comma, Dot, Not, Op, Other}
 
 abbrev pub sign_kind : Sign → Kind
 sign_kind sign.OpenRound = Open
 sign_kind sign.CloseRound = Close
+sign_kind sign.OpenSquare = OpenSquare
+sign_kind sign.CloseSquare = CloseSquare
 sign_kind sign.Less = Op Lt
 sign_kind sign.Greater = Op Gt
 sign_kind sign.Comma = Comma

@@ -9,7 +9,7 @@ use Rattle.flow_tree.specs.declared.token.Spot.{Spot}
 use Rattle.flow_tree.specs.declared.expr.Op.{Op}
 use Rattle.flow_tree.specs.declared.expr.Op.TheVariants.{Sub}
 use Rattle.flow_tree.specs.declared.ty.Ident.{Ident}
-use Rattle.flow_tree.specs.Tree.{ByName, ExprTree, ExprTrees, IntExpr, TextExpr, BoolExpr, VoidExpr, VarExpr, CallExpr, FieldExpr, MethodExpr, NotExpr, NegExpr, BinaryExpr, ParenExpr, NoExprs, MoreExprs}
+use Rattle.flow_tree.specs.Tree.{ByName, indexed, ExprTree, ExprTrees, IntExpr, TextExpr, BoolExpr, VoidExpr, VarExpr, CallExpr, FieldExpr, MethodExpr, NotExpr, NegExpr, BinaryExpr, ParenExpr, NoExprs, MoreExprs}
 use Rattle.flow_tree.specs.Grammar.{level, unary_level}
 use Rattle.flow_exprs.specs.declared.kind.Kind.{Kind}
 use Rattle.flow_exprs.specs.declared.kind.Kind.TheVariants as kind
@@ -59,6 +59,7 @@ pub data Stack : Type 0 where
   InUnary : Unary → Stack → Stack
   InTwo : Op → ExprTree → Stack → Stack
   InArgs : Head → ExprTrees → Stack → Stack
+  InIndex : ExprTree → Stack → Stack
 
 pub data State : Type 0 where
   -- an operand is to begin
@@ -86,6 +87,7 @@ closed_tree n t (InParen K) = t
 closed_tree n t (InUnary u K) = closed_tree n (unary u t) K
 closed_tree n t (InTwo op l K) = if nat_lt (level op) n then t else closed_tree n (BinaryExpr op l t) K
 closed_tree n t (InArgs h ts K) = t
+closed_tree n t (InIndex l K) = t
 
 abbrev pub closed_stack : ℕ → Stack → Stack
 closed_stack n (Top d) = Top d
@@ -93,11 +95,16 @@ closed_stack n (InParen K) = InParen K
 closed_stack n (InUnary u K) = closed_stack n K
 closed_stack n (InTwo op l K) = if nat_lt (level op) n then InTwo op l K else closed_stack n K
 closed_stack n (InArgs h ts K) = InArgs h ts K
+closed_stack n (InIndex l K) = InIndex l K
 
 abbrev pub after_close : ExprTree → Stack → State
 after_close t (InParen K) = Have (ParenExpr t) K
 after_close t (InArgs h ts K) = Have (called h (push ts t)) K
 after_close t _ = Dead
+
+abbrev pub after_square : ExprTree → Stack → State
+after_square t (InIndex l K) = Have (indexed l t) K
+after_square t _ = Dead
 
 abbrev pub after_comma : ExprTree → Stack → State
 after_comma t (InArgs h ts K) = Want (InArgs h (push ts t) K)
@@ -125,6 +132,8 @@ step_want K _ x = Dead
 abbrev pub step_have : ExprTree → Stack → Kind → State
 step_have t K kind.Open = after_open t K
 step_have t K kind.Close = after_close (closed_tree 0 t K) (closed_stack 0 K)
+step_have t K kind.OpenSquare = Want (InIndex t K)
+step_have t K kind.CloseSquare = after_square (closed_tree 0 t K) (closed_stack 0 K)
 step_have t K kind.Comma = after_comma (closed_tree 0 t K) (closed_stack 0 K)
 step_have t K kind.Dot = WantName t K
 step_have t K (kind.Op op) = Want (InTwo op (closed_tree (level op) t K) (closed_stack (level op) K))
@@ -189,6 +198,7 @@ hole (InParen K) = suc (hole K)
 hole (InUnary u K) = suc (hole K)
 hole (InTwo op l K) = suc (hole K)
 hole (InArgs h ts K) = suc (hole K)
+hole (InIndex l K) = suc (hole K)
 
 -- all nodes that have begun keep the limit of depth
 abbrev pub fits_stack : Stack → Bool
@@ -197,6 +207,7 @@ fits_stack (InParen K) = nat_le (hole K) DEPTH && fits_stack K
 fits_stack (InUnary u K) = nat_le (hole K) DEPTH && fits_stack K
 fits_stack (InTwo op l K) = nat_le (hole K + height l) DEPTH && fits_stack K
 fits_stack (InArgs h ts K) = nat_le (hole K + max (head_height h) (heights ts)) DEPTH && fits_stack K
+fits_stack (InIndex l K) = nat_le (hole K + height l) DEPTH && fits_stack K
 
 abbrev pub fits : State → Bool
 fits (Want K) = fits_stack K
@@ -239,3 +250,4 @@ Below n (InParen K) = Unit {0}
 Below n (InUnary u K) = unary_level ≤ n
 Below n (InTwo op l K) = level op < n
 Below n (InArgs h ts K) = Unit {0}
+Below n (InIndex l K) = Unit {0}

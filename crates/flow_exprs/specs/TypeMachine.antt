@@ -10,10 +10,10 @@ use Rattle.flow_tree.specs.declared.token.Word.TheVariants as word
 use Rattle.flow_tree.specs.declared.token.Sign.{Sign}
 use Rattle.flow_tree.specs.declared.token.Sign.TheVariants as sign
 use Rattle.flow_tree.specs.declared.token.Spot.{Spot}
-use Rattle.flow_tree.specs.Tree.{TypeTree, IntType, BoolType, StringType, VoidType, ErrorType, NamedType, FutureType, FutureStreamType, PromiseType, PromiseStreamType}
-use Rattle.flow_tree.specs.Grammar.{Wrapper, FutureOf, FutureStreamOf, PromiseOf, PromiseStreamOf, wrapped}
+use Rattle.flow_tree.specs.Tree.{TypeTree, IntType, BoolType, StringType, VoidType, ErrorType, NamedType, FutureType, FutureStreamType, PromiseType, PromiseStreamType, VectorType}
+use Rattle.flow_tree.specs.Grammar.{Wrapper, FutureOf, FutureStreamOf, PromiseOf, PromiseStreamOf, VectorOf, wrapped}
 use Rattle.flow_exprs.specs.declared.ty.TypeKind.{TypeKind}
-use Rattle.flow_exprs.specs.declared.ty.TypeKind.TheVariants.{Plain, Future, FutureStream, Promise, PromiseStream, Less, Greater, Other}
+use Rattle.flow_exprs.specs.declared.ty.TypeKind.TheVariants.{Plain, Future, FutureStream, Promise, PromiseStream, Vector, Less, Greater, Other}
 use Rattle.flow_tree.specs.declared.limits.TheConstants.{DEPTH}
 
 abbrev pub type_word_kind : Word → TypeKind
@@ -26,6 +26,7 @@ type_word_kind word.Future = Future
 type_word_kind word.FutureStream = FutureStream
 type_word_kind word.Promise = Promise
 type_word_kind word.PromiseStream = PromiseStream
+type_word_kind word.Vector = Vector
 type_word_kind _ = Other
 
 abbrev pub type_sign_kind : Sign → TypeKind
@@ -73,12 +74,14 @@ IsWrapper Future = Unit {0}
 IsWrapper FutureStream = Unit {0}
 IsWrapper Promise = Unit {0}
 IsWrapper PromiseStream = Unit {0}
+IsWrapper Vector = Unit {0}
 IsWrapper _ = ⊥
 
 abbrev pub wrapper_of : TypeKind → Wrapper
 wrapper_of FutureStream = FutureStreamOf
 wrapper_of Promise = PromiseOf
 wrapper_of PromiseStream = PromiseStreamOf
+wrapper_of Vector = VectorOf
 wrapper_of _ = FutureOf
 
 abbrev pub wrapped_by : TypeKind → TypeTree → TypeTree
@@ -105,6 +108,7 @@ want_type K Future x = WantLess FutureOf K
 want_type K FutureStream x = WantLess FutureStreamOf K
 want_type K Promise x = WantLess PromiseOf K
 want_type K PromiseStream x = WantLess PromiseStreamOf K
+want_type K Vector x = WantLess VectorOf K
 want_type K _ x = DeadType
 
 abbrev pub want_less : Wrapper → Around → TypeKind → TypeState
@@ -130,6 +134,7 @@ type_height (FutureType t) = suc (type_height t)
 type_height (FutureStreamType t) = suc (type_height t)
 type_height (PromiseType t) = suc (type_height t)
 type_height (PromiseStreamType t) = suc (type_height t)
+type_height (VectorType t) = suc (type_height t)
 type_height _ = 1
 
 -- the depth of what is wanted

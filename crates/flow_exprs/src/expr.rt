@@ -3,7 +3,7 @@
 ghost use Rattle.std.specs.Prelude.{◌≡◌, ◌↔◌, ℕ, suc, ◌+◌, ◌<◌, ◌≤◌, length, MatchResult, OnSome, IsTrue, Some, slice_get};
 ghost use Rattle.std.specs.Bool.{OnTrue};
 ghost use Rattle.std.specs.Option.{option_map};
-ghost use Rattle.flow_tree.specs.Tree.{VoidExpr, VarExpr, NotExpr, NegExpr, BinaryExpr, ParenExpr, FieldExpr, MethodExpr, CallExpr, ByName};
+ghost use Rattle.flow_tree.specs.Tree.{VoidExpr, VarExpr, NotExpr, NegExpr, BinaryExpr, ParenExpr, FieldExpr, MethodExpr, CallExpr, ByName, indexed};
 ghost use Rattle.flow_tree.specs.View.{expr_of, exprs_of};
 ghost use Rattle.flow_tree.specs.Grammar.{level, unary_level, dot_level, ExprRule};
 ghost use Rattle.flow_tree.specs.declared.limits.TheConstants.{DEPTH};
@@ -167,6 +167,13 @@ fn method(alloc: Global, of: Expr, name: Ident, args: Vec<Expr>) -> Result<Expr,
     Ok(Expr::Method(boxed(alloc, of)?, name, args))
 }
 
+fn index(alloc: Global, of: Expr, at: Expr) -> Result<Expr, Stop>
+    ensures { MatchResult result (λ e. expr_of e ≡ indexed (expr_of of) (expr_of at))
+        (λ e. e ≡ Stop.NoMemory) }
+{
+    Ok(Expr::Index(boxed(alloc, of)?, boxed(alloc, at)?))
+}
+
 fn void_value() -> Expr
     ensures { expr_of result ≡ VoidExpr }
 {
@@ -288,15 +295,20 @@ fn postfix(alloc: Global, spots: &[Spot], from: usize, kind: Kind, depth: u32) -
     ensures { Answer spots.now from unary_level depth dot_level result }
 {
     let mut left = primary(alloc, spots, from, kind, depth)?;
-    'dots: while is_at(spots, left.to, Kind::Dot) {
-        left = with_suffix(alloc, spots, left, depth)?;
+    'suffixes: loop {
+        if is_at(spots, left.to, Kind::Dot) {
+            left = with_dot(alloc, spots, left, depth)?;
+        } else if is_at(spots, left.to, Kind::OpenSquare) {
+            left = with_index(alloc, spots, left, depth)?;
+        } else {
+            return Ok(left);
+        }
     }
-    Ok(left)
 }
 
 // The expression, with the field or the method behind the dot that follows it.
 #[cycle(parse)]
-fn with_suffix(alloc: Global, spots: &[Spot], left: Read, depth: u32) -> Result<Read, Stop>
+fn with_dot(alloc: Global, spots: &[Spot], left: Read, depth: u32) -> Result<Read, Stop>
     requires within { left.to < length spots.now }
     requires dot { kind_at spots.now left.to ≡ Some Kind.Dot }
     requires measured { left.high ≡ height (expr_of left.expr) }
@@ -324,6 +336,29 @@ fn with_suffix(alloc: Global, spots: &[Spot], left: Read, depth: u32) -> Result<
     })
 }
 
+// The expression, with the index in the square brackets that follow it.
+#[cycle(parse)]
+fn with_index(alloc: Global, spots: &[Spot], base: Read, depth: u32) -> Result<Read, Stop>
+    requires within { base.to < length spots.now }
+    requires square { kind_at spots.now base.to ≡ Some Kind.OpenSquare }
+    requires measured { base.high ≡ height (expr_of base.expr) }
+    requires fits { depth + base.high ≤ suc DEPTH }
+    ensures { GoesAnswer spots.now base unary_level depth primary_level result }
+{
+    if depth + base.high > DEPTH {
+        return Err(Stop::Deep(base.to));
+    }
+    let at = expression(alloc, spots, base.to + 1, 0, depth + 1)?;
+    if !is_at(spots, at.to, Kind::CloseSquare) {
+        return Err(Stop::Short(at.to));
+    }
+    Ok(Read {
+        expr: index(alloc, base.expr, at.expr)?,
+        high: base.high.max(at.high) + 1,
+        to: at.to + 1,
+    })
+}
+
 #[cycle(parse)]
 fn primary(alloc: Global, spots: &[Spot], from: usize, kind: Kind, depth: u32) -> Result<Read, Stop>
     requires within { from < length spots.now }
@@ -338,7 +373,12 @@ fn primary(alloc: Global, spots: &[Spot], from: usize, kind: Kind, depth: u32) -
         Kind::Void => void(spots, from, depth),
         Kind::Open => bracket(alloc, spots, from, depth),
         Kind::Not | Kind::Op(_) => Err(Stop::Short(from)),
-        Kind::Close | Kind::Comma | Kind::Dot | Kind::Other => Err(Stop::Short(from)),
+        Kind::Close
+        | Kind::OpenSquare
+        | Kind::CloseSquare
+        | Kind::Comma
+        | Kind::Dot
+        | Kind::Other => Err(Stop::Short(from)),
     }
 }
 
@@ -482,10 +522,10 @@ pub fn refusal(tokens: &Tokens, stop: Stop) -> SourceFault
 }
 
 /// The expression that the tokens from this one on are, as far as some expression goes on with them,
-/// and the number of the token after it. The whole expression has the given depth, and an operand or
-/// an argument is one deeper than the node around it. L5 is refused at the first of these tokens with
-/// which each expression has a node that has begun below depth 64. Where it isn't, and the tokens
-/// are no whole expression, S5 is refused at the token after them, or at the end.
+/// and the number of the token after it. The whole expression has the given depth, and an operand,
+/// an argument or an index is one deeper than the node around it. L5 is refused at the first of
+/// these tokens with which each expression has a node that has begun below depth 64. Where it isn't,
+/// and the tokens are no whole expression, S5 is refused at the token after them, or at the end.
 pub fn parse_expr(
     alloc: Global,
     tokens: &Tokens,

@@ -8,7 +8,7 @@ use flow_tree::expr::Op;
 use flow_tree::token::{Sign, Spot, Token, Word};
 
 /// What a token is to an expression: one that is an expression by itself, a name, the word `Void`,
-/// a bracket, a comma, a dot, `!`, a sign between two operands, or none of these.
+/// a bracket, a square bracket, a comma, a dot, `!`, a sign between two operands, or none of these.
 #[derive(Clone, Copy, PartialEq, Eq)]
 pub enum Kind {
     Leaf,
@@ -16,6 +16,8 @@ pub enum Kind {
     Void,
     Open,
     Close,
+    OpenSquare,
+    CloseSquare,
     Comma,
     Dot,
     Not,
@@ -29,6 +31,8 @@ fn of_sign(sign: Sign) -> Kind
     match sign {
         Sign::OpenRound => Kind::Open,
         Sign::CloseRound => Kind::Close,
+        Sign::OpenSquare => Kind::OpenSquare,
+        Sign::CloseSquare => Kind::CloseSquare,
         Sign::Less => Kind::Op(Op::Lt),
         Sign::Greater => Kind::Op(Op::Gt),
         Sign::Comma => Kind::Comma,
@@ -47,8 +51,6 @@ fn of_sign(sign: Sign) -> Kind
         Sign::Percent => Kind::Op(Op::Rem),
         Sign::OpenCurly
         | Sign::CloseCurly
-        | Sign::OpenSquare
-        | Sign::CloseSquare
         | Sign::Semicolon
         | Sign::Assign
         | Sign::PlusAssign
@@ -90,7 +92,9 @@ fn of_word(word: Word) -> Kind
         | Word::Future
         | Word::FutureStream
         | Word::Promise
-        | Word::PromiseStream => Kind::Other,
+        | Word::PromiseStream
+        | Word::Vector
+        | Word::NoResult => Kind::Other,
     }
 }
 

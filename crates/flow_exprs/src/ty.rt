@@ -27,6 +27,7 @@ pub enum TypeKind {
     FutureStream,
     Promise,
     PromiseStream,
+    Vector,
     Less,
     Greater,
     Other,
@@ -48,6 +49,7 @@ fn of_word(word: Word) -> TypeKind
         Word::FutureStream => TypeKind::FutureStream,
         Word::Promise => TypeKind::Promise,
         Word::PromiseStream => TypeKind::PromiseStream,
+        Word::Vector => TypeKind::Vector,
         Word::Actor
         | Word::Struct
         | Word::State
@@ -67,7 +69,8 @@ fn of_word(word: Word) -> TypeKind
         | Word::Try
         | Word::Catch
         | Word::Yes
-        | Word::No => TypeKind::Other,
+        | Word::No
+        | Word::NoResult => TypeKind::Other,
     }
 }
 
@@ -169,6 +172,7 @@ fn wrap(alloc: Global, kind: TypeKind, of: Ty) -> Result<Ty, Stop>
         TypeKind::FutureStream => Ok(Ty::FutureStream(boxed(alloc, of)?)),
         TypeKind::Promise => Ok(Ty::Promise(boxed(alloc, of)?)),
         TypeKind::PromiseStream => Ok(Ty::PromiseStream(boxed(alloc, of)?)),
+        TypeKind::Vector => Ok(Ty::Vector(boxed(alloc, of)?)),
         _ => Ok(Ty::Future(boxed(alloc, of)?)),
     }
 }
@@ -188,6 +192,7 @@ fn read(alloc: Global, spots: &[Spot], from: usize, depth: u32) -> Result<ReadTy
         TypeKind::FutureStream => argument(alloc, spots, from, kind, depth),
         TypeKind::Promise => argument(alloc, spots, from, kind, depth),
         TypeKind::PromiseStream => argument(alloc, spots, from, kind, depth),
+        TypeKind::Vector => argument(alloc, spots, from, kind, depth),
         TypeKind::Less | TypeKind::Greater | TypeKind::Other => Err(Stop::Short(from)),
     }
 }

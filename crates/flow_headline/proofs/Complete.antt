@@ -1,8 +1,14 @@
 -- Where all texts pass and no call fails, what is due is told whole, or there was no memory.
-use Rattle.std.proofs.Common.{◌≡◌, ℕ, ◌+◌, ◌≤◌, arith, Bool, true, false, true≢false, refl, sym, ap, ◌∙◌, List, [], ◌∷◌, ◌++◌, length, codes, ◌⊎◌, inl, inr, Some, subst}
+use Rattle.std.proofs.Common.{◌≡◌, ℕ, ◌+◌, ◌≤◌, arith, Bool, true, false, true≢false, refl, sym, ap, ◌∙◌, List, [], ◌∷◌, ◌++◌, length, codes, ◌⊎◌, inl, inr, Some, Ok, subst}
 use Rattle.flow_gen.specs.Generator.{program_text, generated_world}
 use Rattle.flow_tree.specs.declared.limits.TheConstants.{PROGRAM_BYTES}
 use Rattle.flow_tree.specs.Canon.{Canon}
+use Rattle.flow_class.specs.declared.class.RawClasses.{RawClasses}
+use Rattle.flow_class.specs.View.{raw_of}
+use Rattle.flow_classprint.specs.ClassText.{ClassText}
+use Rattle.flow_classread.specs.ClassAnswer.{ClassAnswer}
+use Rattle.flow_classread.specs.declared.read.TheConstants.{CLASS_BYTES}
+use Rattle.flow_class_reading_laws.specs.Laws.{OneAnswer as OneClassAnswer}
 use Rattle.flow_tree.specs.declared.decl.Program.{Program}
 use Rattle.flow_tree.specs.DeclView.{program_of}
 use Rattle.flow_worldfile.specs.declared.TheConstants.{WORLD_BYTES}
@@ -12,9 +18,9 @@ use Rattle.flow_worldfile.specs.Laws.{OneVerdict as OneWorldVerdict}
 use Rattle.flow_front.specs.Verdict.{IsProgram}
 use Rattle.flow_front.specs.Laws.{OneVerdict}
 use Rattle.flow_compile_laws.specs.Frames.Framed.{SourceShown}
-use Rattle.flow_words.specs.Asked.{Request, format, check, bench, shrink, debug}
+use Rattle.flow_words.specs.Asked.{Request, format, check, bench, shrink, debug, upgrade}
 use Rattle.flow_top.specs.declared.outcome.Outcome.TheVariants.{Answered, Bench, Shrink, Debug}
-use Rattle.flow_top.specs.declared.outcome.Answered.TheVariants.{Passed, Formatted, LongScript}
+use Rattle.flow_top.specs.declared.outcome.Answered.TheVariants.{Passed, Printed, Formatted, LongScript}
 use Rattle.flow_top.specs.declared.outcome.ProgramRun.{ProgramRun}
 use Rattle.flow_top.specs.Sources.{Source, generated, IsOf}
 use Rattle.std.specs.Prelude.{nat_le, if◌then◌else◌}
@@ -33,9 +39,9 @@ use Rattle.flow_top.specs.Outcomes.{IsPassing, run_for}
 use Rattle.flow_top.specs.Due.{DueBy, IsRunFor}
 use Rattle.flow_headline.specs.Calls.{Call, AsksFor, HasFile, HasWorld, ears_of, IsFault, read_fault, write_fault, no_memory}
 use Rattle.flow_headline.specs.Laws.{Compiles, RunTells, ExecTells}
-use Rattle.flow_headline.specs.Complete.{NoFault, formats, checks, compiles, runs, execs, benches, shrinks, debugs, TellsView, ProgramStops, TellsShrunk, least, not_stopped, TellsText, TellsSummary, Complete}
+use Rattle.flow_headline.specs.Complete.{NoFault, formats, checks, compiles, runs, execs, benches, shrinks, debugs, upgrades, TellsView, ProgramStops, TellsShrunk, least, not_stopped, TellsText, TellsSummary, Complete}
 use Rattle.flow_headline.proofs.Deciding.{IsTold, IsSummed, IsShrunk, IsStateTold, DueFor, first, behind, text_is, told_of, bench_of, shrunk_of, state_of, comes}
-use Rattle.flow_headline.proofs.Judging.{format_due, check_due, bench_due, bench_shows, shrink_due, shrink_shows, debug_due, debug_shows}
+use Rattle.flow_headline.proofs.Judging.{format_due, check_due, upgrade_due, bench_due, bench_shows, shrink_due, shrink_shows, debug_due, debug_shows}
 use Rattle.flow_headline.proofs.Telling.{due_in, first_of}
 
 -- without a fault of files or sink there was no memory
@@ -78,6 +84,22 @@ check_done c name text p one asks file pass = by (comes c (check name) asks)
     by (inl (first t of a d)) =
         let same = text_is (c.files.content name) PROGRAM_BYTES t text file pass.sound.typed.read.has.short a.0 in
         told_by (told_of c Passed (check_due text one p pass name c.answers.outcome (subst (λ z. DueBy z (check name) c.answers.outcome) same d)))
+
+upgrade_done : (c : Call) (name text : List ℕ) (classes : RawClasses) → OneClassAnswer → AsksFor c (upgrade name) → HasFile c name text → ClassAnswer text (Ok classes)
+    → TellsText c (ClassText (raw_of classes)) ⊎ IsFault c
+upgrade_done c name text classes one asks file is = by (comes c (upgrade name) asks)
+  where
+    told_by : (d : RawClasses) → raw_of d ≡ raw_of classes → IsTold (Printed d) c.sink c.sink' c.status ⊎ IsFault c → TellsText c (ClassText (raw_of classes)) ⊎ IsFault c
+    told_by d same (inl x) = subst (λ t. TellsText c (ClassText t) ⊎ IsFault c) same (inl (x.out, x.status))
+    told_by d same (inr x) = inr x
+
+    by : DueFor c.files.content (upgrade name) c.answers.outcome ⊎ IsFault c → TellsText c (ClassText (raw_of classes)) ⊎ IsFault c
+    by (inr x) = inr x
+    by (inl (behind t u s of from also a b d)) = absurd cc
+    by (inl (first t of a d)) =
+        let same = text_is (c.files.content name) CLASS_BYTES t text file is.0.short a.0 in
+        let x = upgrade_due text one classes is name c.answers.outcome (subst (λ z. DueBy z (upgrade name) c.answers.outcome) same d) in
+        told_by x.0 x.2 (told_of c (Printed x.0) x.1)
 
 -- the text of a generated source
 own_text : (own : List ℕ) (s : Source) (text : List ℕ) → Some (generated own) ≡ Some s → IsOf s text → text ≡ own
@@ -208,15 +230,16 @@ module _ (c : Call) (program world : List ℕ) (most : ℕ) (text : List ℕ) (p
           (text_is (c.files.content world) WORLD_BYTES u there.text there.file there.short (first_of c.files.content world WORLD_BYTES s u from b)) d
           (λ m run e at frames. view_tells m e at (subst (λ z. IsRunFor z wanted m.meant m.classes) (is_text t a.0) run))
 
-pub complete : ((text : List ℕ) → OneVerdict text) → OneWorldVerdict → Compiles → RunTells → ExecTells → Complete
-complete one once compiles_law run_law exec_law c _ (formats name text p file is) asks n = unfailing c n (format_done c name text p (one text) asks file is)
-complete one once compiles_law run_law exec_law c _ (checks name text p file pass) asks n = unfailing c n (check_done c name text p (one text) asks file pass)
-complete one once compiles_law run_law exec_law c _ (compiles name text p file pass) asks n = unfailing c n (compiles_law c name text p asks file pass)
-complete one once compiles_law run_law exec_law c _ (runs r text p w file pass world) asks n = unfailing c n (run_law c r text p w asks file pass world)
-complete one once compiles_law run_law exec_law c _ (execs r text classes w file read world) asks n = unfailing c n (exec_law c r text classes w asks file read world)
-complete one once compiles_law run_law exec_law c _ (benches clients seed p w pass short is) asks n =
+pub complete : ((text : List ℕ) → OneVerdict text) → OneWorldVerdict → OneClassAnswer → Compiles → RunTells → ExecTells → Complete
+complete one once class_answer compiles_law run_law exec_law c _ (formats name text p file is) asks n = unfailing c n (format_done c name text p (one text) asks file is)
+complete one once class_answer compiles_law run_law exec_law c _ (checks name text p file pass) asks n = unfailing c n (check_done c name text p (one text) asks file pass)
+complete one once class_answer compiles_law run_law exec_law c _ (compiles name text p file pass) asks n = unfailing c n (compiles_law c name text p asks file pass)
+complete one once class_answer compiles_law run_law exec_law c _ (runs r text p w file pass world) asks n = unfailing c n (run_law c r text p w asks file pass world)
+complete one once class_answer compiles_law run_law exec_law c _ (execs r text classes w file read world) asks n = unfailing c n (exec_law c r text classes w asks file read world)
+complete one once class_answer compiles_law run_law exec_law c _ (benches clients seed p w pass short is) asks n =
     unfailing c n (bench_done c clients seed p w (one (program_text clients)) once asks pass short is)
-complete one once compiles_law run_law exec_law c _ (shrinks program world want text p w file pass there short) asks n =
+complete one once class_answer compiles_law run_law exec_law c _ (shrinks program world want text p w file pass there short) asks n =
     unfailing c n (shrink_done c program world want text p w (one text) once asks file pass there short)
-complete one once compiles_law run_law exec_law c _ (debugs program world most text p w file pass there) asks n =
+complete one once class_answer compiles_law run_law exec_law c _ (debugs program world most text p w file pass there) asks n =
     unfailing c n (debug_done c program world most text p w (one text) once asks file pass there)
+complete one once class_answer compiles_law run_law exec_law c _ (upgrades name text classes file read) asks n = unfailing c n (upgrade_done c name text classes class_answer asks file read)

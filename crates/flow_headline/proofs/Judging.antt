@@ -21,14 +21,14 @@ use Rattle.flow_front.specs.Laws.{OneVerdict}
 use Rattle.flow_lower.specs.Weighing.{first_heavy}
 use Rattle.flow_lower.specs.Compiled.{Has}
 use Rattle.flow_compile_laws.specs.Frames.Framed.{SourceShown, ClassShown}
-use Rattle.flow_words.specs.Asked.{RunRequest, format, check, compile, run, exec, bench, shrink, debug}
+use Rattle.flow_words.specs.Asked.{RunRequest, format, check, compile, run, exec, bench, shrink, debug, upgrade}
 use Rattle.flow_top.specs.declared.outcome.Outcome.{Outcome}
 use Rattle.flow_top.specs.declared.outcome.Outcome.TheVariants.{Answered}
 use Rattle.flow_top.specs.declared.outcome.Answered as told
-use Rattle.flow_top.specs.declared.outcome.Answered.TheVariants.{Passed, Compiled, Formatted}
+use Rattle.flow_top.specs.declared.outcome.Answered.TheVariants.{Passed, Printed, Formatted}
 use Rattle.flow_top.specs.declared.outcome.Meant.{Meant}
 use Rattle.flow_top.specs.Outcomes.{IsPassing, IsRunBy, of_program, of_class_text, IsMeantBy, ShownBy}
-use Rattle.flow_top.specs.Due.{IsRefusedBy, by_rule, lost_local, heavy, DueBy, unread, formatted, refused, passed, compiled, no_classes}
+use Rattle.flow_top.specs.Due.{IsRefusedBy, by_rule, lost_local, heavy, DueBy, unread, formatted, refused, passed, compiled, no_classes, upgraded}
 use Rattle.flow_monitor.specs.declared.attach.Want.{Want}
 use Rattle.flow_monitor.specs.Ears.{Ears}
 use Rattle.flow_shrink.specs.declared.shrinking.Shrunk.{Shrunk}
@@ -36,6 +36,8 @@ use Rattle.flow_shrink.specs.Shrinking.{Shrinks}
 use Rattle.flow_view_laws.specs.Skipped.{IsView}
 use Rattle.flow_top.specs.Debugged.{IsViewBy}
 use Rattle.flow_top.specs.Shrunk.{IsStoppedBy}
+use Rattle.flow_class_reading_laws.specs.Laws.{OneAnswer as OneClassAnswer}
+use Rattle.flow_top.proofs.OneAnswer.{read_or_refused, classes_once}
 use Rattle.flow_headline.specs.Complete.{ProgramStops}
 use Rattle.flow_headline.specs.ReadBack.{IsReadAsProgram}
 
@@ -50,19 +52,23 @@ module _ (text : List ℕ) (one : OneVerdict text) (p : Program) (pass : IsPassi
   unrefused _ (heavy q at s h) =
       let e : Some at ≡ None = sym h ∙ (ap (λ (x : ProgramTree). first_heavy x.decls) (one.program q p s.typed.read pass.sound.typed.read) ∙ pass.light) in absurd cc
 
-  pub compile_due : (name : List ℕ) (o : Outcome) → DueBy text (compile name) o → (classes : RawClasses) × (o ≡ Answered (Compiled classes)) × Has (program_of p) (raw_of classes)
+  pub compile_due : (name : List ℕ) (o : Outcome) → DueBy text (compile name) o → (classes : RawClasses) × (o ≡ Answered (Printed classes)) × Has (program_of p) (raw_of classes)
   compile_due name _ (refused q a has r) = unrefused a r
+  compile_due name _ (no_classes q fault has a n) = absurd has
   compile_due name _ (compiled n q classes other has) = (classes, refl, subst (λ t. Has t (raw_of classes)) (same_program q other) has)
 
   pub check_due : (name : List ℕ) (o : Outcome) → DueBy text (check name) o → o ≡ Answered Passed
   check_due name _ (refused q a has r) = unrefused a r
+  check_due name _ (no_classes q fault has a n) = absurd has
   check_due name _ (passed n q other) = refl
 
   pub bench_due : {A : Type 0} (clients seed : ℕ) (o : Outcome) → DueBy text (bench clients seed) o → A
   bench_due clients seed _ (refused q a has r) = unrefused a r
+  bench_due clients seed _ (no_classes q fault has a n) = absurd has
 
   pub shrink_due : {A : Type 0} (program world : List ℕ) (want : Want) (o : Outcome) → DueBy text (shrink program world want) o → A
   shrink_due program world want _ (refused q a has r) = unrefused a r
+  shrink_due program world want _ (no_classes q fault has a n) = absurd has
 
   -- what the program is stopped in is what the run of its classes is stopped in
   pub shrink_shows : (program world : List ℕ) (want : Want) (meant : Meant) (classes : RawClasses) → IsRunBy text meant classes → IsMeantBy (shrink program world want) meant
@@ -72,6 +78,7 @@ module _ (text : List ℕ) (one : OneVerdict text) (p : Program) (pass : IsPassi
 
   pub debug_due : {A : Type 0} (program world : List ℕ) (most : ℕ) (o : Outcome) → DueBy text (debug program world most) o → A
   debug_due program world most _ (refused q a has r) = unrefused a r
+  debug_due program world most _ (no_classes q fault has a n) = absurd has
 
   -- the view of the program that is run is that of the text's
   pub debug_shows : (program world : List ℕ) (most : ℕ) (meant : Meant) (classes : RawClasses) → IsRunBy text meant classes → IsMeantBy (debug program world most) meant
@@ -81,6 +88,7 @@ module _ (text : List ℕ) (one : OneVerdict text) (p : Program) (pass : IsPassi
 
   pub run_due : {A : Type 0} (r : RunRequest) (o : Outcome) → DueBy text (run r) o → A
   run_due r _ (refused q a has b) = unrefused a b
+  run_due r _ (no_classes q fault has a n) = absurd has
 
   pub bench_shows : (clients seed : ℕ) (meant : Meant) (classes : RawClasses) → IsRunBy text meant classes → IsMeantBy (bench clients seed) meant
       → (frames : Bool) (w : World0) (lines : List Line) → ShownBy meant frames classes w lines → SourceShown frames (program_of p) (seen w) lines
@@ -98,6 +106,14 @@ pub format_due : (text : List ℕ) (one : OneVerdict text) (p : Program) (is : I
 format_due text one p is name _ (unread n rule at u) = absurd (one.read_or_unread p rule at is u)
 format_due text one p is name _ (formatted n q other) = (q, refl, one.program q p other is)
 format_due text one p is name _ (refused q a has r) = absurd has
+format_due text one p is name _ (no_classes q fault has a n) = absurd has
+
+-- a class text that is read
+pub upgrade_due : (text : List ℕ) (one : OneClassAnswer) (c : RawClasses) (is : ClassAnswer text (Ok c)) (name : List ℕ) (o : Outcome) → DueBy text (upgrade name) o
+    → (d : RawClasses) × (o ≡ Answered (Printed d)) × (raw_of d ≡ raw_of c)
+upgrade_due text one c is name _ (refused q a has r) = absurd has
+upgrade_due text one c is name _ (no_classes q fault has a n) = absurd (read_or_refused one text fault c a is n)
+upgrade_due text one c is name _ (upgraded n d other) = (d, refl, classes_once one text d c other is)
 
 -- a class text is read as classes of which such lines are shown, and as nothing else
 abbrev pub IsReadAs : (Shown : Bool → World → List Line → Type 0) → Result RawClasses ClassFault → Type 0
@@ -121,7 +137,7 @@ module _ (text : List ℕ) (Shown : Bool → World → List Line → Type 0) (re
 
   pub exec_due : {A : Type 0} (r : RunRequest) (o : Outcome) → DueBy text (exec r) o → A
   exec_due r _ (refused q a has b) = absurd has
-  exec_due r _ (no_classes s fault a n) = no_fault fault (reads (Err fault) a) n
+  exec_due r _ (no_classes s fault has a n) = no_fault fault (reads (Err fault) a) n
 
   pub exec_shows : (r : RunRequest) (meant : Meant) (classes : RawClasses) → IsRunBy text meant classes → IsMeantBy (exec r) meant
       → (frames : Bool) (w : World0) (lines : List Line) → ShownBy meant frames classes w lines → Shown frames (seen w) lines

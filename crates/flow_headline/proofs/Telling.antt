@@ -41,7 +41,7 @@ use Rattle.flow_world.specs.WatchedTraces.{last_line}
 use Rattle.flow_world.specs.Written.{bytes_of}
 use Rattle.flow_top.specs.declared.outcome.Outcome.{Outcome}
 use Rattle.flow_top.specs.declared.outcome.Outcome.TheVariants.{Answered, Run}
-use Rattle.flow_top.specs.declared.outcome.Answered.TheVariants.{Compiled}
+use Rattle.flow_top.specs.declared.outcome.Answered.TheVariants.{Printed}
 use Rattle.flow_top.specs.declared.outcome.ProgramRun.{ProgramRun}
 use Rattle.flow_top.specs.Requests.{request_by, panel_for, tells_frames}
 use Rattle.flow_top.specs.Outcomes.{IsPassing, IsRunBy, ShownBy, run_for}
@@ -62,10 +62,10 @@ record IsCompiled (c : Call) (p : ProgramTree) : Type 0 where
   status : c.status ≡ 0
 
 module _ (c : Call) (name text : List ℕ) (p : Program) (one : OneVerdict text) (asks : AsksFor c (compile name)) (file : HasFile c name text) (pass : IsPassing text p) where
-  by_classes : (classes : RawClasses) → c.answers.outcome ≡ Answered (Compiled classes) → Has (program_of p) (raw_of classes) → IsCompiled c (program_of p) ⊎ IsFault c
-  by_classes classes e has = by (told_of c (Compiled classes) e)
+  by_classes : (classes : RawClasses) → c.answers.outcome ≡ Answered (Printed classes) → Has (program_of p) (raw_of classes) → IsCompiled c (program_of p) ⊎ IsFault c
+  by_classes classes e has = by (told_of c (Printed classes) e)
     where
-      by : IsTold (Compiled classes) c.sink c.sink' c.status ⊎ IsFault c → IsCompiled c (program_of p) ⊎ IsFault c
+      by : IsTold (Printed classes) c.sink c.sink' c.status ⊎ IsFault c → IsCompiled c (program_of p) ⊎ IsFault c
       by (inl x) = inl (record { raw = raw_of classes; has = has; out = x.out; status = x.status })
       by (inr x) = inr x
 

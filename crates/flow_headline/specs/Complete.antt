@@ -3,6 +3,7 @@ use Rattle.std.specs.Prelude.{◌≡◌, ◌⊎◌, ◌≤◌, ℕ, false, List,
 use Rattle.flow_base.specs.Faults.{Rose, next_count}
 use Rattle.flow_gen.specs.Generator.{program_text, generated_world}
 use Rattle.flow_tree.specs.Canon.{Canon}
+use Rattle.flow_classprint.specs.ClassText.{ClassText}
 use Rattle.flow_tree.specs.declared.decl.Program.{Program}
 use Rattle.flow_tree.specs.DeclView.{program_of}
 use Rattle.flow_trace.specs.declared.line.Line.{Line}
@@ -19,7 +20,7 @@ use Rattle.flow_monitor.specs.declared.attach.Want.{Want}
 use Rattle.flow_monitor.specs.Ears.{Ears}
 use Rattle.flow_shrink.specs.declared.shrinking.TheConstants.{SCRIPT_LINES}
 use Rattle.flow_shrink.specs.Shrinking.{IsLeast}
-use Rattle.flow_words.specs.Asked.{Request, RunRequest, format, check, compile, run, exec, bench, shrink, debug}
+use Rattle.flow_words.specs.Asked.{Request, RunRequest, format, check, compile, run, exec, bench, shrink, debug, upgrade}
 use Rattle.flow_world.specs.declared.ending.Ending.{Ending}
 use Rattle.flow_world.specs.Ends.{end_line, LastIs}
 use Rattle.flow_view_laws.specs.Skipped.{IsView}
@@ -50,6 +51,7 @@ pub data TextsPass (c : Call) : Request → Type 0 where
       → HasWorld c world w → length w.script ≤ SCRIPT_LINES → TextsPass c (shrink program world want)
   debugs : (program world : List ℕ) (most : ℕ) (text : List ℕ) (p : Program) (w : World) → HasFile c program text → IsPassing text p
       → HasWorld c world w → TextsPass c (debug program world most)
+  upgrades : (name text : List ℕ) (classes : RawClasses) → HasFile c name text → ClassAnswer text (Ok classes) → TextsPass c (upgrade name)
 
 -- the lines that are told
 abbrev pub TellsAll : Call → Request → (shown : List Line → Type 0) → Type 0
@@ -99,6 +101,7 @@ IsDone c _ (benches clients seed p w pass short is) = TellsSummary c clients see
 IsDone c _ (shrinks program world want text p w file pass there short) =
     TellsShrunk c (program_of p) (ears_of c (shrink program world want)) w
 IsDone c _ (debugs program world most text p w file pass there) = TellsView c (program_of p) w most
+IsDone c _ (upgrades name text classes file read) = TellsText c (ClassText (raw_of classes))
 
 -- Or there was no memory, with status 7.
 abbrev pub Complete : Type 0

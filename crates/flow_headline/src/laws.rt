@@ -79,6 +79,7 @@ pub fn complete()
 {
     one_verdict();
     one_world_verdict();
+    class_texts_have_one_answer();
     compiles();
     exec_is_run();
 }

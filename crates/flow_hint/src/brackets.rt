@@ -3,15 +3,29 @@
 use crate::source::Source;
 use flow_tree::token::{Sign, Word};
 
+// Whether the token with this number is a closing bracket.
+fn closes(source: Source<'_>, number: usize) -> bool {
+    source.is_sign(number, Sign::CloseRound)
+        || source.is_sign(number, Sign::CloseCurly)
+        || source.is_sign(number, Sign::CloseSquare)
+}
+
+// Whether it is an opening one.
+fn opens(source: Source<'_>, number: usize) -> bool {
+    source.is_sign(number, Sign::OpenRound)
+        || source.is_sign(number, Sign::OpenCurly)
+        || source.is_sign(number, Sign::OpenSquare)
+}
+
 /// The number of the innermost bracket that is open in front of the token with this number.
 pub fn still_open(source: Source<'_>, before: usize) -> Option<usize> {
     let mut closed: usize = 0;
     for back in 0..before {
         let at = before.saturating_sub(back).saturating_sub(1);
-        if source.is_sign(at, Sign::CloseRound) || source.is_sign(at, Sign::CloseCurly) {
+        if closes(source, at) {
             closed = closed.saturating_add(1);
         }
-        if source.is_sign(at, Sign::OpenRound) || source.is_sign(at, Sign::OpenCurly) {
+        if opens(source, at) {
             if closed == 0 {
                 return Some(at);
             }

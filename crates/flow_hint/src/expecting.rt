@@ -8,7 +8,7 @@ use std::alloc::Global;
 // The kinds with which a statement begins, and likewise a declaration, a type and an expression; and
 // the operators between two operands.
 
-const STATEMENT: [Kind; 24] = [
+const STATEMENT: [Kind; 25] = [
     Kind::Name,
     Kind::Word(Word::State),
     Kind::Word(Word::Wait),
@@ -32,10 +32,11 @@ const STATEMENT: [Kind; 24] = [
     Kind::Word(Word::FutureStream),
     Kind::Word(Word::Promise),
     Kind::Word(Word::PromiseStream),
+    Kind::Word(Word::Vector),
     Kind::Sign(Sign::OpenCurly),
 ];
 
-const DECLARATION: [Kind; 12] = [
+const DECLARATION: [Kind; 13] = [
     Kind::Name,
     Kind::Word(Word::Actor),
     Kind::Word(Word::Struct),
@@ -48,9 +49,10 @@ const DECLARATION: [Kind; 12] = [
     Kind::Word(Word::FutureStream),
     Kind::Word(Word::Promise),
     Kind::Word(Word::PromiseStream),
+    Kind::Word(Word::Vector),
 ];
 
-const TYPE: [Kind; 10] = [
+const TYPE: [Kind; 11] = [
     Kind::Name,
     Kind::Word(Word::Int),
     Kind::Word(Word::Bool),
@@ -61,6 +63,7 @@ const TYPE: [Kind; 10] = [
     Kind::Word(Word::FutureStream),
     Kind::Word(Word::Promise),
     Kind::Word(Word::PromiseStream),
+    Kind::Word(Word::Vector),
 ];
 
 const EXPRESSION: [Kind; 9] = [

@@ -24,11 +24,12 @@ state NAME ;|a variable has a type: `state int n = 1;`
 return wait|a wait is a statement by itself: `int x = wait(f);`, then `return x;`
 wait|a wait is a statement by itself: `int x = wait(f);`, then use `x`
 waitNext|a wait is a statement by itself: `int x = waitNext(s);`
-return ;|an actor gives a value: `return Void();`
 Void ;|the value is `Void()`
 Void )|the value is `Void()`
-ACTOR void|an actor gives a future: `ACTOR Future<Void> f(..)`
-ACTOR ANY|an actor gives a future: `ACTOR Future<int> f(..)`
+ACTOR ANY|an actor gives a future, `ACTOR Future<int> f(..)`, or nothing, `ACTOR void f(..)`
+< void|the type is `Void`: `Future<Void>`
+( void|no parameters are `()`; and there are no casts
+return void|`return Void();` gives a value, `return;` ends an actor that gives nothing
 static ANY|leave `static` out
 inline ANY|leave `inline` out
 extern ANY|leave `extern` out
@@ -65,8 +66,14 @@ NUMBER NUMBER|a number begins with no zero, and has no blank or `'` in it
 ( [|there are no functions without a name: write an actor
 , [|there are no functions without a name: write an actor
 return [|there are no functions without a name: write an actor
-[|there are no arrays: a stream holds many values, a record a fixed number
-]|there are no arrays: a stream holds many values, a record a fixed number
+delete [|there are no pointers: leave it out
+NAME NAME [|there are no arrays: `vector<int> v;`, and `v.push_back(1);` appends a value
+FIRST NAME [|no element is assigned to, and none is called on: take it first, `int x = v[0];`
+[|there are no arrays: `vector<int> v;`, and `v.push_back(1);` appends a value
+[ ]|an element is `v[0]`
+]|an element is `v[0]`
+= vector|a vector begins empty: `vector<int> v;`
+return vector|a vector begins empty: `vector<int> v;`, then `return v;`
 FIRST switch {|there is no `switch`: write `if (x == 1) { .. } else if (x == 2) { .. }`
 FIRST do {|there is no `do`: write `loop { ..; if (!(..)) { break; } }`
 FIRST class {|there are no classes: a record is `struct A { int x; };`, what it does are functions and actors
@@ -81,12 +88,10 @@ FIRST struct (|a record has fields alone; it is made by `A(1)`
 FIRST struct =|a field has no value of its own: all are given by `A(1)`
 FIRST cout <|print one value: `trace(x);`
 FIRST TraceEvent .|print one value: `trace(x);`
-FIRST vector <|there are no vectors: a stream holds many values, a record a fixed number
-FIRST std <|a text is a `string`; there are no containers
+FIRST std <|a text is a `string`, a container a `vector<int>`
 FIRST Optional <|there is no `Optional`: declare a record with a `bool` in it
 FIRST Reference <|there are no pointers: values are copied
 FIRST map <|there are no maps: declare a record, or an actor that keeps it
-vector <|there are no vectors: a stream holds many values, a record a fixed number
 FIRST when NAME|a branch has a wait: `when (int x = wait(f)) { .. }`
 FIRST when (|a branch has a wait: `when (wait(f)) { .. }`
 FIRST when )|a branch has a wait: `when (wait(f)) { .. }`
@@ -98,6 +103,8 @@ FIRST new ANY|there are no pointers: a record is made by `A(1)`
 FIRST delete ANY|there are no pointers: leave it out
 = new|there are no pointers: a record is made by `A(1)`
 new NAME|there are no pointers: a record is made by `A(1)`
+FIRST vector (|a vector begins empty: `vector<int> v;`, and `v.push_back(1);` appends a value
+> NAME = {|a vector begins empty: `vector<int> v;`, and `v.push_back(1);` appends a value
 = {|a record is made by its name: `A a = A(1);`
 + =|`+=` has no blank in it
 - =|`-=` has no blank in it
@@ -123,6 +130,9 @@ state|`state` stands in front of the type: `state int n = 1;`
 TEXT TEXT|texts are put together by `+`
 } else|an `else` stands behind the body of an `if`
 else|an `else` stands behind the body of an `if`
+vector ANY|a vector's type is `vector<int>`; nothing is named `vector`
+vector|a vector's type is `vector<int>`; nothing is named `vector`
+void|what gives nothing is an actor, `ACTOR void f(..)`; a function gives a value
 FIRST struct ANY|a record is `struct A { int x; string s; };`
 ";
 

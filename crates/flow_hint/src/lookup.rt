@@ -105,11 +105,20 @@ fn on_token(alloc: Global, source: Source<'_>, at: Place, hint: &mut Hint) -> Re
     Ok(())
 }
 
-// Whether a bracket that is open is missed at the token with this number: each at the end of the text, and a round one where a
-// statement ends or a body begins.
+// Whether a bracket that is open is missed at the token with this number: each at the end of the text, and one of an expression where
+// a statement ends or a body begins.
 fn is_unclosed(source: Source<'_>, number: usize, open: usize) -> bool {
     number >= source.tokens.spots.len()
-        || (source.is_sign(open, Sign::OpenRound) && is_border(source, number))
+        || (!source.is_sign(open, Sign::OpenCurly) && is_border(source, number))
+}
+
+// The bracket that closes an opening one, quoted.
+fn closing_of(bracket: &[u8]) -> &'static [u8] {
+    match bracket {
+        [b'('] => b"`)`",
+        [b'['] => b"`]`",
+        _ => b"`}`",
+    }
 }
 
 // Says which bracket is open.
@@ -123,11 +132,7 @@ fn on_bracket(
     let bracket = source.slice(open, 1);
     let quoted = words(alloc, &[b"this `", bracket, b"` is still open"])?;
     hint.say(at, source.place(open), quoted)?;
-    let closing = if bracket == b"(".as_slice() {
-        b"`)`".as_slice()
-    } else {
-        b"`}`".as_slice()
-    };
+    let closing = closing_of(bracket);
     hint.advise(words(alloc, &[b"put a ", closing, b" where what it opens ends"])?)
 }
 

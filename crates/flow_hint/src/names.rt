@@ -22,15 +22,14 @@ StringRef|a text is a `string`
 Key|a text is a `string`
 Value|a text is a `string`
 Standalone|a text is a `string`
-void|a function that gives nothing is none: make it an actor, `ACTOR Future<Void> f(..)`, or let it give an `int`
-vector|there are no vectors: a stream holds many values, a record a fixed number
+vector|there is no `std`: write `vector<int>`
 std|there is no `std`: a text is a `string`
 map|there are no maps: declare a record, or an actor that keeps it
 Optional|there is no `Optional`: declare a record with a `bool` in it
 Reference|there are no pointers: values are copied
 AsyncVar|there is no `AsyncVar`: send through a `PromiseStream`
 FlowLock|there is no `FlowLock`: let one actor serve a `PromiseStream` of promises
-ActorCollection|there is no `ActorCollection`: keep each future in a `state` variable
+ActorCollection|keep the futures in a `state vector<Future<Void>>`, or start actors by `ACTOR void`, which nobody holds
 RequestStream|between processes: `sendTo(process, port, text);` and `listen(port)`
 nullptr|there are no pointers: a future that never comes is `Never()`
 NULL|there are no pointers: a future that never comes is `Never()`

@@ -39,6 +39,7 @@ impl<'s, 'n, 'a> Explainer<'s, 'n, 'a> {
                 let returns = routine.returns.found();
                 self.wanted(value, token.saturating_add(1), Wanted::part(returns), hint)
             }
+            StmtKind::Return(None) => self.nothing_returned(hint),
             StmtKind::Throw(Some(error)) => {
                 self.wanted(
                     error,
@@ -54,6 +55,27 @@ impl<'s, 'n, 'a> Explainer<'s, 'n, 'a> {
             StmtKind::Wait(waiting) => self.waiting(waiting, token, hint),
             StmtKind::Choose(_) => self.waits(hint),
             _ => Ok(()),
+        }
+    }
+
+    // Says which type is needed where nothing is returned, and what to write.
+    fn nothing_returned(self, hint: &mut Hint) -> Result<(), NoMemory> {
+        let Some(routine) = self.seeker.routine else {
+            return Ok(());
+        };
+        if self.rule != 3 {
+            return Ok(());
+        }
+        let returns = routine.returns.found();
+        let ty = self.spelled(returns)?;
+        self.say(
+            hint,
+            self.at,
+            &[b"`return;` gives nothing, and `", &ty, b"` is needed"],
+        )?;
+        match returns {
+            TypeView::Void => self.advise(hint, &[b"`return Void();`"]),
+            _ => self.advise(hint, &[b"return a value of `", &ty, b"`"]),
         }
     }
 

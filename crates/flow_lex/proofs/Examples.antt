@@ -5,7 +5,7 @@ use Rattle.flow_tree.specs.declared.token.Spot.{Spot}
 use Rattle.flow_tree.specs.declared.token.Token.{Token}
 use Rattle.flow_tree.specs.declared.token.Token.TheVariants as token
 use Rattle.flow_tree.specs.declared.token.Token.TheVariants.{Name, Number}
-use Rattle.flow_tree.specs.declared.token.Word.TheVariants.{If}
+use Rattle.flow_tree.specs.declared.token.Word.TheVariants.{If, Void, NoResult}
 use Rattle.flow_tree.specs.declared.token.Sign.TheVariants.{LessEqual, Greater}
 use Rattle.flow_tree.specs.declared.fault.Rule.TheVariants.{S}
 use Rattle.flow_tree.specs.Lexing.{here, gap, token as and_token, Lexes, LexFault, open_comment, too_big}
@@ -36,6 +36,16 @@ lines = record {
       (gap (omega arith)
       (and_token (Name (codes "x")) 1
       (token_of (codes "x") (Name (codes "x")) 1 refl (name_found (codes "x") 1 (codes "x") (finds_name (codes "x") (omega arith) refl) (word_missing (codes "x") refl) refl)) (omega arith) here)));
+  ends = refl;
+}
+
+-- a word, and another one that begins with a capital
+pub words : Lexes (codes "void Void") (at 1 1 0 (token.Word NoResult) ∷ (at 1 6 5 (token.Word Void) ∷ [])) (record { line = 1; column = 10; byte = 9 })
+words = record {
+  reads =
+      and_token (token.Word NoResult) 4 (token_of (codes "void Void") (token.Word NoResult) 4 refl (found_word (codes "void Void") 4 NoResult (finds_name (codes "void Void") (omega arith) refl) refl)) tt
+      (gap (omega arith)
+      (and_token (token.Word Void) 4 (token_of (codes "Void") (token.Word Void) 4 refl (found_word (codes "Void") 4 Void (finds_name (codes "Void") (omega arith) refl) refl)) tt here));
   ends = refl;
 }
 

@@ -5,7 +5,7 @@ use Rattle.std.proofs.lemmas.Bool.Decides.{nat_tests}
 use Rattle.std.specs.List.{find}
 use Rattle.std.proofs.lemmas.Slice.Eq.{bytes_eq-Decides}
 use Rattle.flow_tree.specs.declared.token.Word as words
-use Rattle.flow_tree.specs.declared.token.Word.TheVariants.{Actor, Struct, State, Wait, WaitNext, Choose, When, Loop, While, For, If, Else, Break, Continue, Return, Throw, Try, Catch, Yes, No, Int, Bool as Bool', Str, Void, Error, Future, FutureStream, Promise, PromiseStream}
+use Rattle.flow_tree.specs.declared.token.Word.TheVariants.{Actor, Struct, State, Wait, WaitNext, Choose, When, Loop, While, For, If, Else, Break, Continue, Return, Throw, Try, Catch, Yes, No, Int, Bool as Bool', Str, Void, Error, Future, FutureStream, Promise, PromiseStream, Vector, NoResult}
 use Rattle.flow_tree.specs.declared.token.Sign as signs
 use Rattle.flow_tree.specs.declared.token.Sign.TheVariants.{OpenRound, CloseRound, OpenCurly, CloseCurly, OpenSquare, CloseSquare, Less, Greater, Comma, Semicolon, Dot, Assign, Equal, NotEqual, LessEqual, GreaterEqual, AndAnd, OrOr, Not, Plus, Minus, Star, Slash, Percent, PlusAssign, MinusAssign, PlusPlus, MinusMinus, Amp}
 use Rattle.flow_tree.specs.Spelling.{word_bytes, sign_bytes}
@@ -34,7 +34,7 @@ find_fails p (y ∷ ys) h i d lt t = elim (p y) as (λ b. (p y ≡ b) → None �
 abbrev pub all_words : List words.Word
 all_words = Actor ∷ (Struct ∷ (State ∷ (Wait ∷ (WaitNext ∷ (Choose
     ∷ (When ∷ (Loop ∷ (While ∷ (For ∷ (If ∷ (Else ∷ (Break ∷ (Continue
-    ∷ (Return ∷ (Throw ∷ (Try ∷ (Catch ∷ (Yes ∷ (No ∷ (Int ∷ (Bool' ∷ (Str ∷ (Void ∷ (Error ∷ (Future ∷ (FutureStream ∷ (Promise ∷ (PromiseStream ∷ []))))))))))))))))))))))))))))
+    ∷ (Return ∷ (Throw ∷ (Try ∷ (Catch ∷ (Yes ∷ (No ∷ (Int ∷ (Bool' ∷ (Str ∷ (Void ∷ (Error ∷ (Future ∷ (FutureStream ∷ (Promise ∷ (PromiseStream ∷ (Vector ∷ (NoResult ∷ []))))))))))))))))))))))))))))))
 
 abbrev word_index : words.Word → ℕ
 word_index Actor = 0
@@ -66,12 +66,14 @@ word_index Future = 25
 word_index FutureStream = 26
 word_index Promise = 27
 word_index PromiseStream = 28
+word_index Vector = 29
+word_index NoResult = 30
 
 word_there : (k : words.Word) → get_or all_words (word_index k) Actor ≡ k
 word_there Actor = refl
 word_there _ = refl
 
-word_within : (k : words.Word) → nat_lt (word_index k) 29 ≡ true
+word_within : (k : words.Word) → nat_lt (word_index k) 31 ≡ true
 word_within Actor = refl
 word_within _ = refl
 

@@ -6,10 +6,11 @@ use Rattle.flow_tree.specs.declared.token.Token.{Token}
 use Rattle.flow_tree.specs.declared.token.Token.TheVariants as token
 use Rattle.flow_tree.specs.declared.token.Word.{Word}
 use Rattle.flow_tree.specs.declared.token.Word.TheVariants as word
+use Rattle.flow_tree.specs.declared.decl.RoutineKind.{RoutineKind}
 use Rattle.flow_tree.specs.Tree.{TypeTree, ExprTree}
 use Rattle.flow_tree.specs.Body.{IntoTree}
 use Rattle.flow_tree.specs.GrammarToken.{Part, Node, Marked, begin}
-use Rattle.flow_tree.specs.Grammar.{ExprRule, number, text, truth, falsehood, void, variable, call, paren, field, method, negation, minus, binary, TypeRule, int_type, bool_type, string_type, void_type, error_type, named_type, wrapped_type, FutureOf, FutureStreamOf, PromiseOf, PromiseStreamOf}
+use Rattle.flow_tree.specs.Grammar.{ExprRule, number, text, truth, falsehood, void, variable, call, paren, field, method, index, negation, minus, binary, TypeRule, int_type, bool_type, string_type, void_type, error_type, named_type, wrapped_type, FutureOf, FutureStreamOf, PromiseOf, PromiseStreamOf, VectorOf}
 use Rattle.flow_tree.specs.GrammarStmt.{Counts, no_state, some_state, IntoRule, declared, OperandRule, wait, wait_next}
 use Rattle.flow_parse.specs.Openers.{AsFirst, ExprToken, TypeWord, TypeToken, IntoWord, IntoToken, WaitWord, WaitToken}
 use Rattle.flow_parse.proofs.Looking.{Looks}
@@ -54,6 +55,7 @@ expr_starts (call f p q args a e) = subst (Starts ExprToken) (sym e) tt
 expr_starts (paren p q of r e) = subst (Starts ExprToken) (sym e) tt
 expr_starts {d = d} (field p x of r e) = starts_begin ExprToken (Node d) of _ e (expr_starts r)
 expr_starts {d = d} (method p q r f of args t a e) = starts_begin ExprToken (Node d) of _ e (expr_starts t)
+expr_starts {d = d} (index p q of at t i e) = starts_begin ExprToken (Node d) of _ e (expr_starts t)
 expr_starts (negation p of h r e) = subst (Starts ExprToken) (sym e) tt
 expr_starts (minus p of h r e) = subst (Starts ExprToken) (sym e) tt
 expr_starts {d = d} (binary op p left right h a b e) = starts_begin ExprToken (Node d) left _ e (expr_starts a)
@@ -69,6 +71,7 @@ type_starts (wrapped_type FutureOf p q r of t e) = subst (Starts TypeToken) (sym
 type_starts (wrapped_type FutureStreamOf p q r of t e) = subst (Starts TypeToken) (sym e) tt
 type_starts (wrapped_type PromiseOf p q r of t e) = subst (Starts TypeToken) (sym e) tt
 type_starts (wrapped_type PromiseStreamOf p q r of t e) = subst (Starts TypeToken) (sym e) tt
+type_starts (wrapped_type VectorOf p q r of t e) = subst (Starts TypeToken) (sym e) tt
 
 type_into_word : (k : Word) → TypeWord k → IntoWord k
 type_into_word word.State h = tt
@@ -81,6 +84,7 @@ type_into_word word.Future h = tt
 type_into_word word.FutureStream h = tt
 type_into_word word.Promise h = tt
 type_into_word word.PromiseStream h = tt
+type_into_word word.Vector h = tt
 type_into_word _ h = h
 
 type_into : (t : Token) → TypeToken t → IntoToken t
@@ -94,7 +98,7 @@ pub starts_weaken : (P Q : Token → Type 0) (f : (t : Token) → P t → Q t) (
 starts_weaken P Q f [] h = absurd h
 starts_weaken P Q f (x ∷ xs) h = f x.spot.token h
 
-pub into_starts : {actor : Bool} {d : ℕ} {c c' : Counts} {w : List Marked} {i : IntoTree} → IntoRule actor d c c' w i → Starts IntoToken w
+pub into_starts : {home : RoutineKind} {d : ℕ} {c c' : Counts} {w : List Marked} {i : IntoTree} → IntoRule home d c c' w i → Starts IntoToken w
 into_starts (declared x kept of no_state t e) = starts_is IntoToken of _ e (starts_weaken TypeToken IntoToken type_into of (type_starts t))
 into_starts (declared x kept of (some_state p) t e) = subst (Starts IntoToken) (sym e) tt
 

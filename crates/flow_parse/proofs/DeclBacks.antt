@@ -1,5 +1,5 @@
 -- Fields, parameters and declarations by their next token: the other way round.
-use Rattle.std.proofs.Common.{◌≡◌, ℕ, suc, ◌<◌, Bool, true, false, List, [], ◌∷◌, ◌++◌, length, refl, sym, ap, ◌∙◌, subst, append_assoc, arith}
+use Rattle.std.proofs.Common.{◌≡◌, ℕ, suc, ◌<◌, List, [], ◌∷◌, ◌++◌, length, refl, sym, ap, ◌∙◌, subst, append_assoc, arith}
 use Rattle.std.specs.declared.option.Option.{Option}
 use Rattle.std.specs.declared.option.Option.TheVariants.{None, Some}
 use Rattle.flow_base.specs.declared.place.Place.{Place}
@@ -8,20 +8,22 @@ use Rattle.flow_tree.specs.declared.token.Token.TheVariants as token
 use Rattle.flow_tree.specs.declared.token.Word.TheVariants as word
 use Rattle.flow_tree.specs.declared.token.Sign.TheVariants as sign
 use Rattle.flow_tree.specs.declared.ty.Ident.{Ident}
-use Rattle.flow_tree.specs.Tree.{TypeTree, VoidType}
+use Rattle.flow_tree.specs.declared.decl.RoutineKind.{RoutineKind}
+use Rattle.flow_tree.specs.declared.decl.RoutineKind.TheVariants as routines
+use Rattle.flow_tree.specs.Tree.{TypeTree, NothingType, VoidType}
 use Rattle.flow_tree.specs.Decls.{ParamTree, RecordTree, RoutineTree, DeclTree, StructDecl, FunctionDecl, ActorDecl}
 use Rattle.flow_tree.specs.GrammarToken.{Part, Declaration, Node, Variable, Marked, begin}
 use Rattle.flow_tree.specs.Grammar.{sign_at, word_at, name_at, TypeRule}
 use Rattle.flow_tree.specs.GrammarStmt.{StartsAt}
-use Rattle.flow_tree.specs.GrammarDecl.{ParamRule, param, FieldsRule, no_fields, more_fields, MoreParamsRule, end_params, more_params, ParamsRule, no_params, some_params, RecordRule, fields, RoutineRule, routine, DeclRule, record_decl, function_decl, actor_decl, DeclsRule, no_decls, more_decls}
+use Rattle.flow_tree.specs.GrammarDecl.{ParamRule, param, FieldsRule, no_fields, more_fields, MoreParamsRule, end_params, more_params, ParamsRule, no_params, some_params, RecordRule, fields, RoutineRule, routine, FunctionRule, function, ActorRule, actor, void_actor, DeclRule, record_decl, function_decl, actor_decl, DeclsRule, no_decls, more_decls}
 use Rattle.flow_parse.specs.Openers.{TypeToken, DeclToken}
 use Rattle.flow_parse.specs.Reading.{Tok, Named, Then, Any}
 use Rattle.flow_parse.specs.Follow.{AtEnd}
-use Rattle.flow_parse.specs.Parts.{BlockOut, Placed, Marks, Block, FieldsPart, AllFields, MoreParams, Params, RoutineOut, Routine, Record, Function, Actor}
+use Rattle.flow_parse.specs.Parts.{BlockOut, Placed, Marks, Block, FieldsPart, AllFields, MoreParams, Params, RoutineOut, Routine, Record, Function, Gives, gives, gives_nothing, Actor}
 use Rattle.flow_parse.proofs.Shapes.{TypeName}
 use Rattle.flow_parse.proofs.Looking.{Looks, Back}
 use Rattle.flow_parse.proofs.Backs.{Formed, front, tok_front}
-use Rattle.flow_parse.proofs.Begins.{Starts, starts_is, starts_looks, looks_is, type_starts}
+use Rattle.flow_parse.proofs.Begins.{Starts, starts_is, starts_looks, looks_first, looks_is, type_starts}
 
 pub param_back : {n : ℕ} {w : List Marked} {f : ParamTree} (z : List Marked) → ParamRule n w f → Back (ParamRule n) Any (Marks (Variable n) TypeName) Any (λ x. record { ty = x.0; name = x.1 }) w z f
 param_back z (param {t = t} x of r e) = record { tree = (t, x); rule = (of ++ name_at x ∷ [], front (TypeRule 1) t x of (name_at x ∷ []) refl r refl, e); is = refl; follows = tt }
@@ -151,15 +153,15 @@ record_form (fields {f = f} {fs = fs} at p q r x xs g e) = record {
   is = refl;
 }
 
-abbrev pub RoutineSeq : Bool → List Marked → Ident × (Place × (List ParamTree × BlockOut)) → Type 0
-RoutineSeq actor w x = Then Named (λ x. Then (Tok (token.Sign sign.OpenRound)) (λ p. Then Params (λ ps. Block actor 2 (record { statements = 0; variables = length ps })))) w x
+abbrev pub RoutineSeq : RoutineKind → List Marked → Ident × (Place × (List ParamTree × BlockOut)) → Type 0
+RoutineSeq home w x = Then Named (λ x. Then (Tok (token.Sign sign.OpenRound)) (λ p. Then Params (λ ps. Block home 2 (record { statements = 0; variables = length ps })))) w x
 
 abbrev pub out_of : RoutineTree → RoutineOut
 out_of f = record { name = f.name; params = f.params; body = f.body; close = f.close }
 
-routine_form : {actor : Bool} {at : Place} {t : TypeTree} {w : List Marked} {f : RoutineTree} → RoutineRule actor at t w f
-    → Formed (RoutineSeq actor) (λ x. record { at = at; returns = t; name = x.0; params = x.1.1.0; body = x.1.1.1.body; close = x.1.1.1.close }) w f
-routine_form {actor = actor} (routine {c = c} {ps = ps} {body = body} p q r close x params xs g ss e) =
+routine_form : {home : RoutineKind} {at : Place} {t : TypeTree} {w : List Marked} {f : RoutineTree} → RoutineRule home at t w f
+    → Formed (RoutineSeq home) (λ x. record { at = at; returns = t; name = x.0; params = x.1.1.0; body = x.1.1.1.body; close = x.1.1.1.close }) w f
+routine_form {home = home} (routine {c = c} {ps = ps} {body = body} p q r close x params xs g ss e) =
     let b : BlockOut = record { body = body; counts = c; close = close } in
     record {
       tree = (x, (p, (ps, b)));
@@ -170,15 +172,15 @@ routine_form {actor = actor} (routine {c = c} {ps = ps} {body = body} p q r clos
       is = refl;
     }
 
-routine_any : {actor : Bool} {at : Place} {t : TypeTree} {w : List Marked} {f : RoutineTree} → RoutineRule actor at t w f → Routine actor w (out_of f)
+routine_any : {home : RoutineKind} {at : Place} {t : TypeTree} {w : List Marked} {f : RoutineTree} → RoutineRule home at t w f → Routine home w (out_of f)
 routine_any (routine p q r close x params xs g ss e) = λ at t. routine p q r close x params xs g ss e
 
-routine_same : {actor : Bool} {at : Place} {t : TypeTree} {w : List Marked} {f : RoutineTree} → RoutineRule actor at t w f
+routine_same : {home : RoutineKind} {at : Place} {t : TypeTree} {w : List Marked} {f : RoutineTree} → RoutineRule home at t w f
     → f ≡ record { at = at; returns = t; name = f.name; params = f.params; body = f.body; close = f.close }
 routine_same (routine p q r close x params xs g ss e) = refl
 
-pub routine_back : {actor : Bool} {w : List Marked} {u : RoutineOut} (z : List Marked) → Routine actor w u
-    → Back (Routine actor) Any (RoutineSeq actor) Any (λ x. record { name = x.0; params = x.1.1.0; body = x.1.1.1.body; close = x.1.1.1.close }) w z u
+pub routine_back : {home : RoutineKind} {w : List Marked} {u : RoutineOut} (z : List Marked) → Routine home w u
+    → Back (Routine home) Any (RoutineSeq home) Any (λ x. record { name = x.0; params = x.1.1.0; body = x.1.1.1.body; close = x.1.1.1.close }) w z u
 routine_back {u = u} z r =
     let k = routine_form (r u.close VoidType) in
     record { tree = k.tree; rule = k.rule; is = ap out_of k.is; follows = tt }
@@ -187,18 +189,37 @@ starts_placed : (P : Token → Type 0) {w : List Marked} (p : Place) (xs ys : Li
 starts_placed P p [] ys e h s = absurd h
 starts_placed P p (x ∷ xs) ys e h s = subst (λ v. StartsAt v p) e s
 
-abbrev pub FunctionSeq : List Marked → (Place × TypeTree) × RoutineOut → Type 0
-FunctionSeq w x = Then (Placed (TypeRule 1)) (λ y. Routine false) w x
+abbrev pub FunctionSeq : RoutineKind → List Marked → (Place × TypeTree) × RoutineOut → Type 0
+FunctionSeq home w x = Then (Placed (TypeRule 1)) (λ y. Routine home) w x
 
 abbrev pub function_tree : (Place × TypeTree) × RoutineOut → RoutineTree
 function_tree x = record { at = x.0.0; returns = x.0.1; name = x.1.name; params = x.1.params; body = x.1.body; close = x.1.close }
 
-abbrev pub ActorSeq : List Marked → Place × (Place × (Place × (TypeTree × (Place × RoutineOut)))) → Type 0
-ActorSeq w x = Then (Tok (token.Word word.Actor)) (λ p. Then (Tok (token.Word word.Future))
-    (λ q. Then (Tok (token.Sign sign.Less)) (λ s. Then (TypeRule 2) (λ y. Then (Tok (token.Sign sign.Greater)) (λ v. Routine true))))) w x
+-- what an actor gives, by its next token
+abbrev pub GivesSeq : List Marked → Place × (Place × (TypeTree × Place)) → Type 0
+GivesSeq w x = Then (Tok (token.Word word.Future)) (λ p. Then (Tok (token.Sign sign.Less)) (λ s. Then (TypeRule 2) (λ y. Tok (token.Sign sign.Greater)))) w x
 
-abbrev pub actor_tree : Place × (Place × (Place × (TypeTree × (Place × RoutineOut)))) → RoutineTree
-actor_tree x = record { at = x.0; returns = x.1.1.1.0; name = x.1.1.1.1.1.name; params = x.1.1.1.1.1.params; body = x.1.1.1.1.1.body; close = x.1.1.1.1.1.close }
+pub gives_nothing_back : {w : List Marked} {t : TypeTree} (z : List Marked) → Gives w t → Looks (Some (token.Word word.NoResult)) (w ++ z)
+    → Back Gives Any (Tok (token.Word word.NoResult)) Any (λ p. NothingType) w z t
+gives_nothing_back z (gives_nothing p) l = record { tree = p; rule = refl; is = refl; follows = tt }
+gives_nothing_back z (gives p q r of t e) l = let k = looks_is (Some (token.Word word.NoResult)) (word_at word.Future p) _ z e l in absurd (cc)
+
+pub gives_back : {w : List Marked} {t : TypeTree} (z : List Marked) (o : Option Token) → (o ≡ Some (token.Word word.NoResult) → ⊥) → Gives w t → Looks o (w ++ z)
+    → Back Gives Any GivesSeq Any (λ x. x.1.1.0) w z t
+gives_back z o n (gives_nothing p) l = absurd (n (looks_first o (word_at word.NoResult p) z l))
+gives_back z o n (gives {t = y} p q r of t e) l = record {
+  tree = (p, (q, (y, r)));
+  rule = tok_front (token.Word word.Future) p (q, (y, r)) (sign_at sign.Less q ∷ (of ++ sign_at sign.Greater r ∷ [])) e
+      (tok_front (token.Sign sign.Less) q (y, r) (of ++ sign_at sign.Greater r ∷ []) refl (front (TypeRule 2) y r of (sign_at sign.Greater r ∷ []) refl t refl));
+  is = refl;
+  follows = tt;
+}
+
+abbrev pub ActorSeq : List Marked → Place × (TypeTree × RoutineOut) → Type 0
+ActorSeq w x = Then (Tok (token.Word word.Actor)) (λ p. Then Gives (λ y. Routine routines.Actor)) w x
+
+abbrev pub actor_tree : Place × (TypeTree × RoutineOut) → RoutineTree
+actor_tree x = record { at = x.0; returns = x.1.0; name = x.1.1.name; params = x.1.1.params; body = x.1.1.body; close = x.1.1.close }
 
 struct_actor : (o : Option Token) → o ≡ Some (token.Word word.Struct) → o ≡ Some (token.Word word.Actor) → ⊥
 struct_actor o e f = cc
@@ -206,46 +227,23 @@ struct_actor o e f = cc
 record_looks : {w : List Marked} {r : RecordTree} (z : List Marked) (o : Option Token) → RecordRule w r → Looks o (w ++ z) → o ≡ Some (token.Word word.Struct)
 record_looks z o (fields at p q r x xs g e) l = looks_is o (word_at word.Struct at) _ z e l
 
-pub record_back : {w : List Marked} {t : DeclTree} (z : List Marked) → DeclRule w t → Looks (Some (token.Word word.Struct)) (w ++ z)
-    → Back DeclRule Any RecordSeq Any (λ x. StructDecl (record { at = x.0; name = x.1.0; fields = x.1.1.1.0 })) w z t
-record_back z (record_decl r) l = let k = record_form r in record { tree = k.tree; rule = k.rule; is = ap StructDecl k.is; follows = tt }
-record_back {w = w} z (function_decl at of xs t r e s) l = absurd (starts_looks TypeToken w z (Some (token.Word word.Struct)) (starts_is TypeToken of xs e (type_starts t)) l)
-record_back z (actor_decl at p q r of xs t u e) l = absurd (struct_actor (Some (token.Word word.Struct)) refl (looks_is (Some (token.Word word.Struct)) (word_at word.Actor at) _ z e l))
+actor_looks : {w : List Marked} {f : RoutineTree} (z : List Marked) (o : Option Token) → ActorRule w f → Looks o (w ++ z) → o ≡ Some (token.Word word.Actor)
+actor_looks z o (actor at p q r of xs t u e) l = looks_is o (word_at word.Actor at) _ z e l
+actor_looks z o (void_actor at p xs u e) l = looks_is o (word_at word.Actor at) _ z e l
 
-pub actor_back : {w : List Marked} {t : DeclTree} (z : List Marked) → DeclRule w t → Looks (Some (token.Word word.Actor)) (w ++ z)
-    → Back DeclRule Any ActorSeq Any (λ x. ActorDecl (actor_tree x)) w z t
-actor_back z (record_decl r) l = absurd (struct_actor (Some (token.Word word.Actor)) (record_looks z (Some (token.Word word.Actor)) r l) refl)
-actor_back {w = w} z (function_decl at of xs t r e s) l = absurd (starts_looks TypeToken w z (Some (token.Word word.Actor)) (starts_is TypeToken of xs e (type_starts t)) l)
-actor_back z (actor_decl {t = y} {f = f} at p q r of xs t u e) l = record {
-  tree = (at, (p, (q, (y, (r, out_of f)))));
-  rule = tok_front (token.Word word.Actor) at (p, (q, (y, (r, out_of f)))) (word_at word.Future p ∷ sign_at sign.Less q ∷ (of ++ (sign_at sign.Greater r ∷ xs))) e
-      (tok_front (token.Word word.Future) p (q, (y, (r, out_of f))) (sign_at sign.Less q ∷ (of ++ (sign_at sign.Greater r ∷ xs))) refl
-      (tok_front (token.Sign sign.Less) q (y, (r, out_of f)) (of ++ (sign_at sign.Greater r ∷ xs)) refl
-      (front (TypeRule 2) y (r, out_of f) of (sign_at sign.Greater r ∷ xs) refl t (tok_front (token.Sign sign.Greater) r (out_of f) xs refl (routine_any u)))));
-  is = ap ActorDecl (routine_same u);
-  follows = tt;
-}
-
-pub function_back : {w : List Marked} {t : DeclTree} (z : List Marked) (o : Option Token) → (o ≡ Some (token.Word word.Struct) → ⊥) → (o ≡ Some (token.Word word.Actor) → ⊥) → DeclRule w t
-    → Looks o (w ++ z) → Back DeclRule Any FunctionSeq Any (λ x. FunctionDecl (function_tree x)) w z t
-function_back z o n m (record_decl r) l = absurd (n (record_looks z o r l))
-function_back z o n m (function_decl {t = y} {f = f} at of xs t r e s) l = record {
-  tree = ((at, y), out_of f);
-  rule = front (Placed (TypeRule 1)) (at, y) (out_of f) of xs e (starts_placed TypeToken at of xs e (type_starts t) s, t) (routine_any r);
-  is = ap FunctionDecl (routine_same r);
-  follows = tt;
-}
-function_back z o n m (actor_decl at p q r of xs t u e) l = absurd (m (looks_is o (word_at word.Actor at) _ z e l))
+function_starts : {home : RoutineKind} {w : List Marked} {f : RoutineTree} → FunctionRule home w f → Starts TypeToken w
+function_starts (function at of xs t r e s) = starts_is TypeToken of xs e (type_starts t)
 
 -- one kind of declaration, whatever its next token is
 abbrev pub record_tree : Place × (Ident × (Place × (List ParamTree × Place))) → RecordTree
 record_tree x = record { at = x.0; name = x.1.0; fields = x.1.1.1.0 }
 
 pub record_part_back : {w : List Marked} {r : RecordTree} (z : List Marked) → Record w r → Back Record Any RecordSeq Any record_tree w z r
-record_part_back z (record_decl r) = let k = record_form r in record { tree = k.tree; rule = k.rule; is = k.is; follows = tt }
+record_part_back z r = let k = record_form r in record { tree = k.tree; rule = k.rule; is = k.is; follows = tt }
 
-pub function_part_back : {w : List Marked} {f : RoutineTree} (z : List Marked) → Function w f → Back Function Any FunctionSeq Any function_tree w z f
-function_part_back z (function_decl {t = y} {f = f} at of xs t r e s) = record {
+pub function_part_back : {home : RoutineKind} {w : List Marked} {f : RoutineTree} (z : List Marked) → Function home w f
+    → Back (Function home) Any (FunctionSeq home) Any function_tree w z f
+function_part_back z (function {t = y} {f = f} at of xs t r e s) = record {
   tree = ((at, y), out_of f);
   rule = front (Placed (TypeRule 1)) (at, y) (out_of f) of xs e (starts_placed TypeToken at of xs e (type_starts t) s, t) (routine_any r);
   is = routine_same r;
@@ -253,26 +251,38 @@ function_part_back z (function_decl {t = y} {f = f} at of xs t r e s) = record {
 }
 
 pub actor_part_back : {w : List Marked} {f : RoutineTree} (z : List Marked) → Actor w f → Back Actor Any ActorSeq Any actor_tree w z f
-actor_part_back z (actor_decl {t = y} {f = f} at p q r of xs t u e) = record {
-  tree = (at, (p, (q, (y, (r, out_of f)))));
-  rule = tok_front (token.Word word.Actor) at (p, (q, (y, (r, out_of f)))) (word_at word.Future p ∷ sign_at sign.Less q ∷ (of ++ (sign_at sign.Greater r ∷ xs))) e
-      (tok_front (token.Word word.Future) p (q, (y, (r, out_of f))) (sign_at sign.Less q ∷ (of ++ (sign_at sign.Greater r ∷ xs))) refl
-      (tok_front (token.Sign sign.Less) q (y, (r, out_of f)) (of ++ (sign_at sign.Greater r ∷ xs)) refl
-      (front (TypeRule 2) y (r, out_of f) of (sign_at sign.Greater r ∷ xs) refl t (tok_front (token.Sign sign.Greater) r (out_of f) xs refl (routine_any u)))));
+actor_part_back z (actor {t = y} {f = f} at p q r of xs t u e) = record {
+  tree = (at, (y, out_of f));
+  rule = tok_front (token.Word word.Actor) at (y, out_of f) (word_at word.Future p ∷ sign_at sign.Less q ∷ (of ++ (sign_at sign.Greater r ∷ xs))) e
+      (front Gives y (out_of f) (word_at word.Future p ∷ sign_at sign.Less q ∷ (of ++ sign_at sign.Greater r ∷ [])) xs
+      (ap (λ k. word_at word.Future p ∷ sign_at sign.Less q ∷ k) (sym (append_assoc of (sign_at sign.Greater r ∷ []) xs))) (gives p q r of t refl) (routine_any u));
+  is = routine_same u;
+  follows = tt;
+}
+actor_part_back z (void_actor {f = f} at p xs u e) = record {
+  tree = (at, (NothingType, out_of f));
+  rule = tok_front (token.Word word.Actor) at (NothingType, out_of f) (word_at word.NoResult p ∷ xs) e
+      (front Gives NothingType (out_of f) (word_at word.NoResult p ∷ []) xs refl (gives_nothing p) (routine_any u));
   is = routine_same u;
   follows = tt;
 }
 
 -- a declaration is of one kind, as its next token says
 pub record_kind_back : {w : List Marked} {t : DeclTree} (z : List Marked) → DeclRule w t → Looks (Some (token.Word word.Struct)) (w ++ z) → Back DeclRule Any Record Any StructDecl w z t
-record_kind_back z r l = let k = record_back z r l in record { tree = record_tree k.tree; rule = subst (DeclRule _) k.is r; is = k.is; follows = tt }
+record_kind_back z (record_decl {r = r} k) l = record { tree = r; rule = k; is = refl; follows = tt }
+record_kind_back {w = w} z (function_decl k) l = absurd (starts_looks TypeToken w z (Some (token.Word word.Struct)) (function_starts k) l)
+record_kind_back z (actor_decl k) l = absurd (struct_actor (Some (token.Word word.Struct)) refl (actor_looks z (Some (token.Word word.Struct)) k l))
 
 pub actor_kind_back : {w : List Marked} {t : DeclTree} (z : List Marked) → DeclRule w t → Looks (Some (token.Word word.Actor)) (w ++ z) → Back DeclRule Any Actor Any ActorDecl w z t
-actor_kind_back z r l = let k = actor_back z r l in record { tree = actor_tree k.tree; rule = subst (DeclRule _) k.is r; is = k.is; follows = tt }
+actor_kind_back z (record_decl k) l = absurd (struct_actor (Some (token.Word word.Actor)) (record_looks z (Some (token.Word word.Actor)) k l) refl)
+actor_kind_back {w = w} z (function_decl k) l = absurd (starts_looks TypeToken w z (Some (token.Word word.Actor)) (function_starts k) l)
+actor_kind_back z (actor_decl {f = f} k) l = record { tree = f; rule = k; is = refl; follows = tt }
 
 pub function_kind_back : {w : List Marked} {t : DeclTree} (z : List Marked) (o : Option Token) → (o ≡ Some (token.Word word.Struct) → ⊥) → (o ≡ Some (token.Word word.Actor) → ⊥) → DeclRule w t
-    → Looks o (w ++ z) → Back DeclRule Any Function Any FunctionDecl w z t
-function_kind_back z o n m r l = let k = function_back z o n m r l in record { tree = function_tree k.tree; rule = subst (DeclRule _) k.is r; is = k.is; follows = tt }
+    → Looks o (w ++ z) → Back DeclRule Any (Function routines.Function) Any FunctionDecl w z t
+function_kind_back z o n m (record_decl k) l = absurd (n (record_looks z o k l))
+function_kind_back z o n m (function_decl {f = f} k) l = record { tree = f; rule = k; is = refl; follows = tt }
+function_kind_back z o n m (actor_decl k) l = absurd (m (actor_looks z o k l))
 
 type_decl : (w : List Marked) → Starts TypeToken w → Starts DeclToken w
 type_decl [] h = absurd h
@@ -285,8 +295,9 @@ type_decl (x ∷ w) h = by_token x.spot.token h
 
 pub decl_starts : {w : List Marked} {t : DeclTree} → DeclRule w t → Starts DeclToken w
 decl_starts (record_decl (fields at p q r x xs g e)) = subst (Starts DeclToken) (sym e) tt
-decl_starts (function_decl at of xs t r e s) = starts_is DeclToken of xs e (type_decl of (type_starts t))
-decl_starts (actor_decl at p q r of xs t u e) = subst (Starts DeclToken) (sym e) tt
+decl_starts {w = w} (function_decl k) = type_decl w (function_starts k)
+decl_starts (actor_decl (actor at p q r of xs t u e)) = subst (Starts DeclToken) (sym e) tt
+decl_starts (actor_decl (void_actor at p xs u e)) = subst (Starts DeclToken) (sym e) tt
 
 abbrev pub DeclMarks : ℕ → List Marked → DeclTree → Type 0
 DeclMarks n w t = Marks (Declaration n) (Marks (Node 1) DeclRule) w t

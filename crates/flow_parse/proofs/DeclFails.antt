@@ -1,5 +1,5 @@
 -- Where parameters and declarations are refused.
-use Rattle.std.proofs.Common.{◌≡◌, ℕ, ◌+◌, ◌≤◌, ◌<◌, true, false, List, [], ◌∷◌, ◌++◌, length, take, drop, refl, sym, ap, ◌∙◌, subst, arith, inr}
+use Rattle.std.proofs.Common.{◌≡◌, ℕ, ◌+◌, ◌≤◌, ◌<◌, List, [], ◌∷◌, ◌++◌, length, take, drop, refl, sym, ap, ◌∙◌, subst, arith, inr}
 use Rattle.std.specs.Prelude.{Err}
 use Rattle.std.specs.declared.option.Option.TheVariants.{Some}
 use Rattle.flow_tree.specs.declared.limits.Limits.{Limits}
@@ -15,13 +15,14 @@ use Rattle.flow_tree.specs.declared.ty.Ident.{Ident}
 use Rattle.flow_tree.specs.declared.fault.Rule.TheVariants as rule
 use Rattle.flow_tree.specs.declared.fault.SourceFault.{SourceFault}
 use Rattle.flow_tree.specs.declared.fault.SourceFault.TheVariants.{Refused, AcrossWait, OutOfMemory}
+use Rattle.flow_tree.specs.declared.decl.RoutineKind.TheVariants as routines
 use Rattle.flow_tree.specs.Decls.{DeclTree, StructDecl, FunctionDecl, ActorDecl}
 use Rattle.flow_tree.specs.Tree.{IntType}
 use Rattle.flow_tree.specs.GrammarAnswer.{place_at}
 use Rattle.flow_tree.specs.GrammarToken.{Declaration, Node, Variable, Marked, begin, GoodOf}
 use Rattle.flow_tree.specs.Grammar.{sign_at, word_at, name_at, node_word, TypeRule, int_type}
 use Rattle.flow_tree.specs.GrammarStmt.{StartsAt}
-use Rattle.flow_tree.specs.GrammarDecl.{ParamRule, DeclRule, record_decl, function_decl, actor_decl, DeclsRule}
+use Rattle.flow_tree.specs.GrammarDecl.{ParamRule, function, actor, DeclRule, record_decl, function_decl, actor_decl, DeclsRule}
 use Rattle.flow_exprs.proofs.Goes.{nowhere}
 use Rattle.flow_parse.specs.Openers.{AsFirst, TypeToken, DeclToken}
 use Rattle.flow_parse.specs.Reading.{token_at, Named, Any}
@@ -87,13 +88,13 @@ struct_good limits m p =
 
 actor_good : (limits : Limits) (m : ℕ) (p : Place) → GoodOf limits DeclRule m (record { token = token.Word word.Actor; at = p } ∷ [])
 actor_good limits m p =
-    let r = some_routine true in
+    let r = some_routine routines.Actor in
     let of = node_word 2 word.Int nowhere ∷ [] in
     record {
       read = word_at word.Actor p ∷ [];
       rest = word_at word.Future nowhere ∷ sign_at sign.Less nowhere ∷ (of ++ (sign_at sign.Greater nowhere ∷ r.marked));
       tree = ActorDecl (record { at = p; returns = IntType; name = r.tree.name; params = r.tree.params; body = r.tree.body; close = r.tree.close });
-      rule = actor_decl p nowhere nowhere nowhere of r.marked (int_type nowhere) (r.rule p IntType) refl;
+      rule = actor_decl (actor p nowhere nowhere nowhere of r.marked (int_type nowhere) (r.rule p IntType) refl);
       is = refl;
       keeps = (tt, tt);
     }
@@ -104,7 +105,7 @@ starts_at P (x ∷ w) h = (x.spot.at, refl)
 
 function_good : (limits : Limits) (m : ℕ) (ts : List Spot) → GoodOf limits (TypeRule 1) m ts → GoodOf limits DeclRule m ts
 function_good limits m ts t =
-    let g = good_first limits (TypeRule 1) Any (λ y. Routine false) Any (λ a b v z s f. tt) m ts (λ y. some_routine false) t in
+    let g = good_first limits (TypeRule 1) Any (λ y. Routine routines.Function) Any (λ a b v z s f. tt) m ts (λ y. some_routine routines.Function) t in
     let y = g.tree.0 in
     let r = g.tree.1 in
     let p = starts_at TypeToken (g.read ++ g.rest) (starts_is TypeToken g.rule.first g.rule.rest g.rule.is (type_starts g.rule.front)) in
@@ -112,7 +113,7 @@ function_good limits m ts t =
       read = g.read;
       rest = g.rest;
       tree = FunctionDecl (record { at = p.0; returns = y; name = r.name; params = r.params; body = r.body; close = r.close });
-      rule = function_decl p.0 g.rule.first g.rule.rest g.rule.front (g.rule.back p.0 y) g.rule.is p.1;
+      rule = function_decl (function p.0 g.rule.first g.rule.rest g.rule.front (g.rule.back p.0 y) g.rule.is p.1);
       is = g.is;
       keeps = g.keeps;
     }

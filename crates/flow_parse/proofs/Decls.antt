@@ -1,5 +1,5 @@
 -- How declarations are read.
-use Rattle.std.proofs.Common.{◌≡◌, ℕ, suc, ◌+◌, ◌≤◌, ◌<◌, Bool, true, false, List, [], ◌∷◌, ◌++◌, length, refl, sym, ap, ◌∙◌, subst, arith, append_assoc}
+use Rattle.std.proofs.Common.{◌≡◌, ℕ, suc, ◌+◌, ◌≤◌, ◌<◌, List, [], ◌∷◌, ◌++◌, length, refl, sym, ap, ◌∙◌, subst, arith, append_assoc}
 use Rattle.std.specs.declared.option.Option.{Option}
 use Rattle.std.specs.declared.option.Option.TheVariants.{None, Some}
 use Rattle.flow_tree.specs.declared.limits.Limits.{Limits}
@@ -11,19 +11,22 @@ use Rattle.flow_tree.specs.declared.token.Sign.TheVariants as sign
 use Rattle.flow_tree.specs.declared.token.Spot.{Spot}
 use Rattle.flow_tree.specs.declared.token.Tokens.{Tokens}
 use Rattle.flow_tree.specs.declared.ty.Ident.{Ident}
-use Rattle.flow_tree.specs.Decls.{ParamTree, DeclTree, StructDecl, FunctionDecl, ActorDecl}
+use Rattle.flow_tree.specs.declared.decl.RoutineKind.{RoutineKind}
+use Rattle.flow_tree.specs.declared.decl.RoutineKind.TheVariants as routines
+use Rattle.flow_tree.specs.Tree.{TypeTree, NothingType}
+use Rattle.flow_tree.specs.Decls.{ParamTree, RoutineTree, DeclTree, StructDecl, FunctionDecl, ActorDecl}
 use Rattle.flow_tree.specs.GrammarToken.{Declaration, Variable, Marked, begin}
 use Rattle.flow_tree.specs.Grammar.{sign_at, word_at, name_at, TypeRule}
 use Rattle.flow_tree.specs.GrammarStmt.{StartsAt}
 use Rattle.flow_tree.specs.GrammarAnswer.{place_at}
-use Rattle.flow_tree.specs.GrammarDecl.{ParamRule, param, FieldsRule, no_fields, more_fields, end_params, more_params, no_params, some_params, RecordRule, fields, routine, DeclRule, record_decl, function_decl, actor_decl, DeclsRule, no_decls, more_decls}
+use Rattle.flow_tree.specs.GrammarDecl.{ParamRule, param, FieldsRule, no_fields, more_fields, end_params, more_params, no_params, some_params, RecordRule, fields, RoutineRule, routine, function, ActorRule, actor, void_actor, DeclRule, record_decl, function_decl, actor_decl, DeclsRule, no_decls, more_decls}
 use Rattle.flow_parse.specs.Reading.{token_at, Tok, Named, Then, Any, Reads}
 use Rattle.flow_parse.specs.Follow.{AtEnd}
-use Rattle.flow_parse.specs.Parts.{Placed, Marks, Block, FieldsPart, AllFields, MoreParams, Params, Routine, Record, Function, Actor}
+use Rattle.flow_parse.specs.Parts.{Placed, Marks, Block, FieldsPart, AllFields, MoreParams, Params, Routine, Record, Function, Gives, gives, gives_nothing, Actor}
 use Rattle.flow_parse.proofs.Leaves.{Leaves, Link, free, Turns, nothing, narrow, then_reads, tok_reads, empty, glue, behind, starts_append}
 use Rattle.flow_parse.proofs.Failing.{Inhabited}
-use Rattle.flow_parse.proofs.Inhabitants.{some_then, some_opening, some_named, some_type, some_block, some_param, some_fields, some_all_fields, some_more_params, some_params as params_inhabited, some_routine, some_decls}
-use Rattle.flow_parse.proofs.DeclBacks.{param_back, no_params_back, params_back, more_params_back, end_params_back, end_fields_back, more_fields_back, all_fields_back, routine_back, record_tree, function_tree, actor_tree, record_part_back, function_part_back, actor_part_back, record_kind_back, function_kind_back, actor_kind_back, DeclMarks, end_decls_back, decls_back}
+use Rattle.flow_parse.proofs.Inhabitants.{some_then, some_opening, some_named, some_type, some_block, some_param, some_fields, some_all_fields, some_more_params, some_params as params_inhabited, some_routine, some_gives, some_decls}
+use Rattle.flow_parse.proofs.DeclBacks.{param_back, no_params_back, params_back, more_params_back, end_params_back, end_fields_back, more_fields_back, all_fields_back, routine_back, record_tree, function_tree, actor_tree, record_part_back, function_part_back, gives_nothing_back, gives_back, actor_part_back, record_kind_back, function_kind_back, actor_kind_back, DeclMarks, end_decls_back, decls_back}
 use Rattle.flow_parse.proofs.Stmts.{closed_by}
 use Rattle.flow_parse.proofs.Shapes.{TypeName}
 
@@ -71,50 +74,48 @@ pub struct_link : Link (Tok (token.Word word.Struct)) Any (λ p. Then Named (λ 
 struct_link = free (λ p. some_then Named (λ x. Then (Tok (token.Sign sign.OpenCurly)) (λ q. Then AllFields (λ fs. Tok (token.Sign sign.Semicolon)))) some_named (λ x. some_record_open))
 
 -- name "(" params ")" block
-pub routine_params_link : (actor : Bool) → Link Params Any (λ ps. Block actor 2 (record { statements = 0; variables = length ps })) Any
-routine_params_link actor = free (λ ps. some_block actor 2 (record { statements = 0; variables = length ps }))
+pub routine_params_link : (home : RoutineKind) → Link Params Any (λ ps. Block home 2 (record { statements = 0; variables = length ps })) Any
+routine_params_link home = free (λ ps. some_block home 2 (record { statements = 0; variables = length ps }))
 
-some_routine_params : (actor : Bool) → Inhabited (Then Params (λ ps. Block actor 2 (record { statements = 0; variables = length ps })))
-some_routine_params actor = some_then Params (λ ps. Block actor 2 (record { statements = 0; variables = length ps })) params_inhabited
-    (λ ps. some_block actor 2 (record { statements = 0; variables = length ps }))
+some_routine_params : (home : RoutineKind) → Inhabited (Then Params (λ ps. Block home 2 (record { statements = 0; variables = length ps })))
+some_routine_params home = some_then Params (λ ps. Block home 2 (record { statements = 0; variables = length ps })) params_inhabited
+    (λ ps. some_block home 2 (record { statements = 0; variables = length ps }))
 
-pub routine_open_link : (actor : Bool) → Link (Tok (token.Sign sign.OpenRound)) Any (λ p. Then Params (λ ps. Block actor 2 (record { statements = 0; variables = length ps }))) Any
-routine_open_link actor = free (λ p. some_routine_params actor)
+pub routine_open_link : (home : RoutineKind) → Link (Tok (token.Sign sign.OpenRound)) Any (λ p. Then Params (λ ps. Block home 2 (record { statements = 0; variables = length ps }))) Any
+routine_open_link home = free (λ p. some_routine_params home)
 
-pub routine_name_link : (actor : Bool) → Link Named Any (λ x. Then (Tok (token.Sign sign.OpenRound)) (λ p. Then Params (λ ps. Block actor 2 (record { statements = 0; variables = length ps })))) Any
-routine_name_link actor = free (λ x. some_then (Tok (token.Sign sign.OpenRound)) (λ p. Then Params (λ ps. Block actor 2 (record { statements = 0; variables = length ps })))
-    (some_opening [] (token.Sign sign.OpenRound)) (λ p. some_routine_params actor))
+pub routine_name_link : (home : RoutineKind) → Link Named Any (λ x. Then (Tok (token.Sign sign.OpenRound)) (λ p. Then Params (λ ps. Block home 2 (record { statements = 0; variables = length ps })))) Any
+routine_name_link home = free (λ x. some_then (Tok (token.Sign sign.OpenRound)) (λ p. Then Params (λ ps. Block home 2 (record { statements = 0; variables = length ps })))
+    (some_opening [] (token.Sign sign.OpenRound)) (λ p. some_routine_params home))
 
 -- type routine
-pub function_link : Link (Placed (TypeRule 1)) Any (λ y. Routine false) Any
-function_link = free (λ y. some_routine false)
+pub function_link : (home : RoutineKind) → Link (Placed (TypeRule 1)) Any (λ y. Routine home) Any
+function_link home = free (λ y. some_routine home)
 
--- "ACTOR" "Future" "<" type ">" routine
-pub greater_link : Link (Tok (token.Sign sign.Greater)) Any (λ v. Routine true) Any
-greater_link = free (λ v. some_routine true)
+-- "Future" "<" type ">"
+pub result_link : Link (TypeRule 2) Any (λ y. Tok (token.Sign sign.Greater)) Any
+result_link = free (λ y. some_opening [] (token.Sign sign.Greater))
 
-some_greater : Inhabited (Then (Tok (token.Sign sign.Greater)) (λ v. Routine true))
-some_greater = some_then (Tok (token.Sign sign.Greater)) (λ v. Routine true) (some_opening [] (token.Sign sign.Greater)) (λ v. some_routine true)
+some_result : Inhabited (Then (TypeRule 2) (λ y. Tok (token.Sign sign.Greater)))
+some_result = some_then (TypeRule 2) (λ y. Tok (token.Sign sign.Greater)) (some_type 2) (λ y. some_opening [] (token.Sign sign.Greater))
 
-pub result_link : Link (TypeRule 2) Any (λ y. Then (Tok (token.Sign sign.Greater)) (λ v. Routine true)) Any
-result_link = free (λ y. some_greater)
-
-some_result : Inhabited (Then (TypeRule 2) (λ y. Then (Tok (token.Sign sign.Greater)) (λ v. Routine true)))
-some_result = some_then (TypeRule 2) (λ y. Then (Tok (token.Sign sign.Greater)) (λ v. Routine true)) (some_type 2) (λ y. some_greater)
-
-pub less_link : Link (Tok (token.Sign sign.Less)) Any (λ s. Then (TypeRule 2) (λ y. Then (Tok (token.Sign sign.Greater)) (λ v. Routine true))) Any
+pub less_link : Link (Tok (token.Sign sign.Less)) Any (λ s. Then (TypeRule 2) (λ y. Tok (token.Sign sign.Greater))) Any
 less_link = free (λ s. some_result)
 
-some_less : Inhabited (Then (Tok (token.Sign sign.Less)) (λ s. Then (TypeRule 2) (λ y. Then (Tok (token.Sign sign.Greater)) (λ v. Routine true))))
-some_less = some_then (Tok (token.Sign sign.Less)) (λ s. Then (TypeRule 2) (λ y. Then (Tok (token.Sign sign.Greater)) (λ v. Routine true))) (some_opening [] (token.Sign sign.Less)) (λ s. some_result)
+pub future_link : Link (Tok (token.Word word.Future)) Any (λ q. Then (Tok (token.Sign sign.Less)) (λ s. Then (TypeRule 2) (λ y. Tok (token.Sign sign.Greater)))) Any
+future_link = free (λ q. some_then (Tok (token.Sign sign.Less)) (λ s. Then (TypeRule 2) (λ y. Tok (token.Sign sign.Greater))) (some_opening [] (token.Sign sign.Less)) (λ s. some_result))
 
-pub future_link : Link (Tok (token.Word word.Future)) Any (λ q. Then (Tok (token.Sign sign.Less)) (λ s. Then (TypeRule 2) (λ y. Then (Tok (token.Sign sign.Greater)) (λ v. Routine true)))) Any
-future_link = free (λ q. some_less)
+-- "ACTOR", what it gives, and its routine
+pub gives_link : Link Gives Any (λ y. Routine routines.Actor) Any
+gives_link = free (λ y. some_routine routines.Actor)
 
-pub actor_link : Link (Tok (token.Word word.Actor)) Any (λ p. Then (Tok (token.Word word.Future))
-    (λ q. Then (Tok (token.Sign sign.Less)) (λ s. Then (TypeRule 2) (λ y. Then (Tok (token.Sign sign.Greater)) (λ v. Routine true))))) Any
-actor_link = free (λ p. some_then (Tok (token.Word word.Future)) (λ q. Then (Tok (token.Sign sign.Less)) (λ s. Then (TypeRule 2) (λ y. Then (Tok (token.Sign sign.Greater)) (λ v. Routine true))))
-    (some_opening [] (token.Word word.Future)) (λ q. some_less))
+pub actor_link : Link (Tok (token.Word word.Actor)) Any (λ p. Then Gives (λ y. Routine routines.Actor)) Any
+actor_link = free (λ p. some_then Gives (λ y. Routine routines.Actor) some_gives (λ y. some_routine routines.Actor))
+
+actor_rule : {w of xs : List Marked} {y : TypeTree} {f : RoutineTree} (at : Place) → Gives of y → RoutineRule routines.Actor at y xs f → w ≡ word_at word.Actor at ∷ (of ++ xs) → ActorRule w f
+actor_rule {xs = xs} at (gives p q r of t e) u k = actor at p q r of xs t u (k ∙ ap (λ z. word_at word.Actor at ∷ (z ++ xs)) e
+    ∙ ap (λ z. word_at word.Actor at ∷ word_at word.Future p ∷ sign_at sign.Less q ∷ z) (append_assoc of (sign_at sign.Greater r ∷ []) xs))
+actor_rule {xs = xs} at (gives_nothing p) u k = void_actor at p xs u k
 
 -- declarations one after another
 pub decls_link : (n : ℕ) → Link (DeclMarks n) Any (λ x. DeclsRule (suc n)) (λ x. AtEnd x.1)
@@ -159,35 +160,45 @@ module _ (limits : Limits) (t : Tokens) (at : ℕ) (h : at ≤ length t.spots.it
     back = λ w z b r f l. record_part_back z r;
     forth = λ u x r.
         let k = r.back.back.back in
-        record_decl (record_rule x.0 x.1.1.0 k.front.0.0 x.1.1.1.1 x.1.0 k.front.0.1 u x.1.1.1.0 k.front.0.2 k.front.1
+        (record_rule x.0 x.1.1.0 k.front.0.0 x.1.1.1.1 x.1.0 k.front.0.1 u x.1.1.1.0 k.front.0.2 k.front.1
         (behind r.is r.front (behind r.back.is r.back.front (behind r.back.back.is r.back.back.front (closed_by _ _ k.is k.front.0.3 k.back)))));
   }) (nothing limits t.spots.items Record Any at h)
 
-  pub routine_left : (actor : Bool) → Leaves limits (Routine actor) Any
-      (Then Named (λ x. Then (Tok (token.Sign sign.OpenRound)) (λ p. Then Params (λ ps. Block actor 2 (record { statements = 0; variables = length ps }))))) Any
+  pub routine_left : (home : RoutineKind) → Leaves limits (Routine home) Any
+      (Then Named (λ x. Then (Tok (token.Sign sign.OpenRound)) (λ p. Then Params (λ ps. Block home 2 (record { statements = 0; variables = length ps }))))) Any
       (λ x. record { name = x.0; params = x.1.1.0; body = x.1.1.1.body; close = x.1.1.1.close }) t.spots.items at at
-  routine_left actor = narrow limits t.spots.items refl (record {
+  routine_left home = narrow limits t.spots.items refl (record {
     back = λ w z b r f l. routine_back z r;
     forth = λ u x r p y.
         let k = r.back.back in
         routine x.1.0 k.front.0 k.back.0 x.1.1.1.close x.0 k.front.1 k.back.1 k.front.2 k.back.2 (behind r.is r.front (behind r.back.is r.back.front (closed_by _ _ k.is k.front.3 k.back.3)));
-  }) (nothing limits t.spots.items (Routine actor) Any at h)
+  }) (nothing limits t.spots.items (Routine home) Any at h)
 
-  pub function_left : Leaves limits Function Any (Then (Placed (TypeRule 1)) (λ y. Routine false)) Any function_tree t.spots.items at at
-  function_left = narrow limits t.spots.items refl (record {
+  pub function_left : (home : RoutineKind) → Leaves limits (Function home) Any (Then (Placed (TypeRule 1)) (λ y. Routine home)) Any function_tree t.spots.items at at
+  function_left home = narrow limits t.spots.items refl (record {
     back = λ w z b r f l. function_part_back z r;
-    forth = λ u x r. function_decl x.0.0 r.first r.rest r.front.1 (r.back x.0.0 x.0.1) r.is (subst (λ z. StartsAt z x.0.0) (sym r.is) (starts_append r.first r.rest x.0.0 r.front.0));
-  }) (nothing limits t.spots.items Function Any at h)
+    forth = λ u x r. function x.0.0 r.first r.rest r.front.1 (r.back x.0.0 x.0.1) r.is (subst (λ z. StartsAt z x.0.0) (sym r.is) (starts_append r.first r.rest x.0.0 r.front.0));
+  }) (nothing limits t.spots.items (Function home) Any at h)
 
-  pub actor_left : Leaves limits Actor Any (Then (Tok (token.Word word.Actor))
-      (λ p. Then (Tok (token.Word word.Future)) (λ q. Then (Tok (token.Sign sign.Less)) (λ s. Then (TypeRule 2) (λ y. Then (Tok (token.Sign sign.Greater)) (λ v. Routine true)))))) Any actor_tree
+  -- what an actor gives
+  pub gives_nothing_left : token_at t.spots.items at ≡ Some (token.Word word.NoResult)
+      → Leaves limits Gives Any (Tok (token.Word word.NoResult)) Any (λ p. NothingType) t.spots.items at at
+  gives_nothing_left e = narrow limits t.spots.items e (record { back = λ w z b r f l. gives_nothing_back z r l; forth = λ u p r. subst (λ k. Gives k NothingType) (sym r) (gives_nothing p) })
+      (nothing limits t.spots.items Gives Any at h)
+
+  pub gives_left : (token_at t.spots.items at ≡ Some (token.Word word.NoResult) → ⊥)
+      → Leaves limits Gives Any (Then (Tok (token.Word word.Future)) (λ p. Then (Tok (token.Sign sign.Less)) (λ s. Then (TypeRule 2) (λ y. Tok (token.Sign sign.Greater))))) Any (λ x. x.1.1.0)
       t.spots.items at at
+  gives_left n = narrow limits t.spots.items refl (record {
+    back = λ w z b r f l. gives_back z (token_at t.spots.items at) n r l;
+    forth = λ u x r. gives x.0 x.1.0 x.1.1.1 r.back.back.first r.back.back.front
+        (behind r.is r.front (behind r.back.is r.back.front (glue _ r.back.back.is r.back.back.back)));
+  }) (nothing limits t.spots.items Gives Any at h)
+
+  pub actor_left : Leaves limits Actor Any (Then (Tok (token.Word word.Actor)) (λ p. Then Gives (λ y. Routine routines.Actor))) Any actor_tree t.spots.items at at
   actor_left = narrow limits t.spots.items refl (record {
     back = λ w z b r f l. actor_part_back z r;
-    forth = λ u x r.
-        let k = r.back.back.back in
-        actor_decl x.0 x.1.0 x.1.1.0 x.1.1.1.1.0 k.first k.back.rest k.front (k.back.back x.0 x.1.1.1.0)
-        (behind r.is r.front (behind r.back.is r.back.front (behind r.back.back.is r.back.back.front (glue _ k.is (behind k.back.is k.back.front refl)))));
+    forth = λ u x r. actor_rule x.0 r.back.front (r.back.back x.0 x.1.0) (behind r.is r.front r.back.is);
   }) (nothing limits t.spots.items Actor Any at h)
 
   -- behind the word that begins it
@@ -197,19 +208,18 @@ module _ (limits : Limits) (t : Tokens) (at : ℕ) (h : at ≤ length t.spots.it
   struct_read e = then_reads limits t.spots.items struct_link record_left (tok_reads limits t at (token.Word word.Struct) e)
 
   pub actor_read : token_at t.spots.items at ≡ Some (token.Word word.Actor)
-      → Leaves limits Actor Any (Then (Tok (token.Word word.Future)) (λ q. Then (Tok (token.Sign sign.Less)) (λ s. Then (TypeRule 2) (λ y. Then (Tok (token.Sign sign.Greater)) (λ v. Routine true)))))
-      Any (λ x. actor_tree (place_at t at, x)) t.spots.items at (at + 1)
+      → Leaves limits Actor Any (Then Gives (λ y. Routine routines.Actor)) Any (λ x. actor_tree (place_at t at, x)) t.spots.items at (at + 1)
   actor_read e = then_reads limits t.spots.items actor_link actor_left (tok_reads limits t at (token.Word word.Actor) e)
 
 -- which kind of declaration it is
 pub record_turns : Turns DeclRule Any Record Any StructDecl (Some (token.Word word.Struct))
-record_turns = record { back = λ w z b r f l. record_kind_back z r l; forth = λ w c r. r }
+record_turns = record { back = λ w z b r f l. record_kind_back z r l; forth = λ w c r. record_decl r }
 
 pub actor_turns : Turns DeclRule Any Actor Any ActorDecl (Some (token.Word word.Actor))
-actor_turns = record { back = λ w z b r f l. actor_kind_back z r l; forth = λ w c r. r }
+actor_turns = record { back = λ w z b r f l. actor_kind_back z r l; forth = λ w c r. actor_decl r }
 
-pub function_turns : (o : Option Token) → (o ≡ Some (token.Word word.Struct) → ⊥) → (o ≡ Some (token.Word word.Actor) → ⊥) → Turns DeclRule Any Function Any FunctionDecl o
-function_turns o n m = record { back = λ w z b r f l. function_kind_back z o n m r l; forth = λ w c r. r }
+pub function_turns : (o : Option Token) → (o ≡ Some (token.Word word.Struct) → ⊥) → (o ≡ Some (token.Word word.Actor) → ⊥) → Turns DeclRule Any (Function routines.Function) Any FunctionDecl o
+function_turns o n m = record { back = λ w z b r f l. function_kind_back z o n m r l; forth = λ w c r. function_decl r }
 
 module _ (limits : Limits) (spots : List Spot) where
   pub more_params_left : {A : Type 0} {W : List Marked → A → Type 0} {FW : A → List Marked → Type 0} {g : List ParamTree → A} {from at n : ℕ} → token_at spots at ≡ Some (token.Sign sign.Comma)

@@ -7,10 +7,11 @@ use Rattle.flow_tree.specs.declared.token.Token.{Token}
 use Rattle.flow_tree.specs.declared.token.Token.TheVariants as token
 use Rattle.flow_tree.specs.declared.token.Word.{Word}
 use Rattle.flow_tree.specs.declared.ty.Ident.{Ident}
+use Rattle.flow_tree.specs.declared.decl.RoutineKind.{RoutineKind}
 use Rattle.flow_tree.specs.Tree.{TypeTree, ExprTree}
 use Rattle.flow_tree.specs.Body.{IntoTree, WaitTree, Body}
 use Rattle.flow_tree.specs.GrammarToken.{Marked}
-use Rattle.flow_tree.specs.Grammar.{TypeRule, int_type, bool_type, string_type, void_type, error_type, named_type, wrapped_type, FutureOf, FutureStreamOf, PromiseOf, PromiseStreamOf}
+use Rattle.flow_tree.specs.Grammar.{TypeRule, int_type, bool_type, string_type, void_type, error_type, named_type, wrapped_type, FutureOf, FutureStreamOf, PromiseOf, PromiseStreamOf, VectorOf}
 use Rattle.flow_tree.specs.GrammarStmt.{Counts, no_state, some_state, IntoRule, declared, OperandRule, wait, wait_next, WaitingRule, plain_wait, into_wait, PathRule, last_name, more_names, AssignRule, assign, plus, minus, up, down, InitRule, declare, declare_value, change, PlainRule, if_stmt, if_else_stmt, while_stmt, for_stmt, loop_stmt, break_stmt, continue_stmt, return_stmt, throw_stmt, try_stmt, choose_stmt, init_stmt, wait_stmt, call_stmt}
 use Rattle.flow_parse.specs.Openers.{StartsWord}
 use Rattle.flow_parse.proofs.Looking.{Looks}
@@ -43,8 +44,9 @@ type_begins (wrapped_type FutureOf p q r of t e) = subst Begins (sym e) tt
 type_begins (wrapped_type FutureStreamOf p q r of t e) = subst Begins (sym e) tt
 type_begins (wrapped_type PromiseOf p q r of t e) = subst Begins (sym e) tt
 type_begins (wrapped_type PromiseStreamOf p q r of t e) = subst Begins (sym e) tt
+type_begins (wrapped_type VectorOf p q r of t e) = subst Begins (sym e) tt
 
-pub into_begins : {actor : Bool} {d : ℕ} {c c' : Counts} {w : List Marked} {i : IntoTree} → IntoRule actor d c c' w i → Begins w
+pub into_begins : {home : RoutineKind} {d : ℕ} {c c' : Counts} {w : List Marked} {i : IntoTree} → IntoRule home d c c' w i → Begins w
 into_begins (declared x kept of no_state t e) = begins_is of _ e (type_begins t)
 into_begins (declared x kept of (some_state p) t e) = subst Begins (sym e) tt
 
@@ -52,7 +54,7 @@ pub operand_begins : {d : ℕ} {w : List Marked} {b : Bool} {e : ExprTree} → O
 operand_begins (wait p q r of x e) = subst Begins (sym e) tt
 operand_begins (wait_next p q r of x e) = subst Begins (sym e) tt
 
-pub waiting_begins : {actor : Bool} {d : ℕ} {c c' : Counts} {w : List Marked} {x : WaitTree} → WaitingRule actor d c c' w x → Begins w
+pub waiting_begins : {home : RoutineKind} {d : ℕ} {c c' : Counts} {w : List Marked} {x : WaitTree} → WaitingRule home d c c' w x → Begins w
 waiting_begins (plain_wait o) = operand_begins o
 waiting_begins (into_wait p left right i o e) = begins_is left _ e (into_begins i)
 
@@ -67,7 +69,7 @@ assign_begins (minus at p path value r x e s) = begins_is path _ e (path_begins 
 assign_begins (up at p path r e s) = begins_is path _ e (path_begins r)
 assign_begins (down at p path r e s) = begins_is path _ e (path_begins r)
 
-pub init_begins : {actor : Bool} {d : ℕ} {c c' : Counts} {w : List Marked} {p : Place} {rest body : Body} → InitRule actor d c c' w p rest body → Begins w
+pub init_begins : {home : RoutineKind} {d : ℕ} {c c' : Counts} {w : List Marked} {p : Place} {rest body : Body} → InitRule home d c c' w p rest body → Begins w
 init_begins (declare at i s) = into_begins i
 init_begins (declare_value at p left value i x e s) = begins_is left _ e (into_begins i)
 init_begins (change at r) = assign_begins r
@@ -81,7 +83,7 @@ begins_looks : (w z : List Marked) (t : Token) → Begins w → Looks (Some t) (
 begins_looks [] z t b l = absurd b
 begins_looks (x ∷ w) z t b l = subst StartsSimple l b
 
-pub opener_is : {actor : Bool} {d : ℕ} {c c' : Counts} {w : List Marked} {p : Place} {rest body : Body} {b : Bool} (z : List Marked) (t : Token) → (r : PlainRule actor d c c' w p rest body b)
+pub opener_is : {home : RoutineKind} {d : ℕ} {c c' : Counts} {w : List Marked} {p : Place} {rest body : Body} {b : Bool} (z : List Marked) (t : Token) → (r : PlainRule home d c c' w p rest body b)
     → Looks (Some t) (w ++ z) → OpenerIs (opener r) t
 opener_is z t (if_stmt at p q test body e b f) l = sym (subst (λ x. Looks (Some t) (x ++ z)) f l)
 opener_is z t (if_else_stmt at p q r test body other e b o f) l = sym (subst (λ x. Looks (Some t) (x ++ z)) f l)

@@ -1,5 +1,5 @@
 -- Each part has tokens that are it.
-use Rattle.std.proofs.Common.{ℕ, suc, Bool, true, false, List, [], ◌∷◌, ◌++◌, refl, length, arith, ◌<◌, inl, inr}
+use Rattle.std.proofs.Common.{ℕ, suc, true, false, List, [], ◌∷◌, ◌++◌, refl, length, arith, ◌<◌, inl, inr}
 use Rattle.std.specs.declared.option.Option.TheVariants.{None, Some}
 use Rattle.flow_base.specs.declared.place.Place.{Place}
 use Rattle.flow_tree.specs.declared.token.Token.{Token}
@@ -7,15 +7,16 @@ use Rattle.flow_tree.specs.declared.token.Token.TheVariants as token
 use Rattle.flow_tree.specs.declared.token.Word.TheVariants as word
 use Rattle.flow_tree.specs.declared.token.Sign.TheVariants as sign
 use Rattle.flow_tree.specs.declared.ty.Ident.{Ident}
-use Rattle.flow_tree.specs.Tree.{IntType, BoolExpr, NoExprs}
+use Rattle.flow_tree.specs.declared.decl.RoutineKind.{RoutineKind}
+use Rattle.flow_tree.specs.Tree.{IntType, NothingType, BoolExpr, NoExprs}
 use Rattle.flow_tree.specs.Body.{IntoTree, End, BreakStmt, ModifyStmt, UpChange, DeclareStmt, NoBranches, MoreBranches}
 use Rattle.flow_tree.specs.GrammarToken.{Part, Branch, Node, Variable, Marked, opens, begin}
 use Rattle.flow_tree.specs.Grammar.{sign_at, word_at, name_at, node_word, TypeRule, int_type, ExprRule, truth, no_args, end_args}
-use Rattle.flow_tree.specs.GrammarStmt.{Counts, one_statement, begin_statement, no_state, declared, wait, plain_wait, last_name, up, change, no_init, no_step, no_expr, break_stmt, plain_stmt, block_body, braces, no_stmts, no_whens, branch}
+use Rattle.flow_tree.specs.GrammarStmt.{Counts, one_statement, begin_statement, no_state, declared, wait, plain_wait, last_name, up, change, no_init, no_step, no_expr, something, break_stmt, plain_stmt, block_body, braces, no_stmts, no_whens, branch}
 use Rattle.flow_tree.specs.GrammarDecl.{ParamRule, param, no_fields, more_fields, end_params, no_params, routine, DeclsRule, no_decls}
 use Rattle.flow_exprs.proofs.Goes.{nowhere}
 use Rattle.flow_parse.specs.Reading.{Opening, Named, Then}
-use Rattle.flow_parse.specs.Parts.{Out, Test, Args, MoreArgs, MoreNames, MaybeExpr, StatePart, IntoPart, OperandPart, WaitingPart, ChangeRule, goes_up, ChangedRule, changes, DeclaredRule, no_value, ValuedRule, declares, Unended, Simple, Init, Assignment, StartPart, NextPart, Plain, One, BodyPart, Closing, Block, Catch, WhenPart, WhensPart, AllWhens, FieldsPart, AllFields, MoreParams, Params, Routine, Marks, Begun}
+use Rattle.flow_parse.specs.Parts.{Out, Test, Args, MoreArgs, MoreNames, MaybeExpr, Returned, StatePart, IntoPart, OperandPart, WaitingPart, ChangeRule, goes_up, ChangedRule, changes, DeclaredRule, no_value, ValuedRule, declares, Unended, Simple, Init, Assignment, StartPart, NextPart, Plain, One, BodyPart, Closing, Block, Catch, WhenPart, WhensPart, AllWhens, FieldsPart, AllFields, MoreParams, Params, Routine, Gives, gives_nothing, Marks, Begun}
 use Rattle.flow_parse.proofs.SimpleBacks.{Given}
 use Rattle.flow_parse.proofs.StmtBacks.{ElsePart}
 use Rattle.flow_parse.proofs.UnendedBacks.{init_unended, AfterName, AfterInit}
@@ -52,11 +53,11 @@ some_test d = let e = some_expr d in record {
   rule = (nowhere, nowhere, e.marked, e.rule, refl);
 }
 
-pub some_state : (actor : Bool) (c : Counts) → Inhabited (StatePart actor c)
-some_state actor c = record { marked = []; tree = (false, c); rule = no_state }
+pub some_state : (home : RoutineKind) (c : Counts) → Inhabited (StatePart home c)
+some_state home c = record { marked = []; tree = (false, c); rule = no_state }
 
-pub some_into : (actor : Bool) (d : ℕ) (c : Counts) → Inhabited (IntoPart actor d c)
-some_into actor d c = let t = some_type d in record {
+pub some_into : (home : RoutineKind) (d : ℕ) (c : Counts) → Inhabited (IntoPart home d c)
+some_into home d c = let t = some_type d in record {
   marked = [] ++ (t.marked ++ name_at name ∷ []);
   tree = (record { state = false; ty = t.tree; name = name }, c);
   rule = declared name [] t.marked no_state t.rule refl;
@@ -69,8 +70,8 @@ some_operand d = let e = some_expr (suc d) in record {
   rule = wait nowhere nowhere nowhere e.marked e.rule refl;
 }
 
-pub some_waiting : (actor : Bool) (d : ℕ) (c : Counts) → Inhabited (WaitingPart actor d c)
-some_waiting actor d c = let o = some_operand d in record { marked = o.marked; tree = (record { into = None; next = o.tree.0; operand = o.tree.1 }, c); rule = plain_wait o.rule }
+pub some_waiting : (home : RoutineKind) (d : ℕ) (c : Counts) → Inhabited (WaitingPart home d c)
+some_waiting home d c = let o = some_operand d in record { marked = o.marked; tree = (record { into = None; next = o.tree.0; operand = o.tree.1 }, c); rule = plain_wait o.rule }
 
 pub some_names : (x : Ident) → Inhabited (MoreNames x)
 some_names x = record { marked = []; tree = x ∷ []; rule = last_name x }
@@ -100,49 +101,55 @@ some_assignment d = record {
   rule = (nowhere, up nowhere nowhere (name_at name ∷ []) (last_name name) refl refl);
 }
 
-pub some_init : (actor : Bool) (d : ℕ) (c : Counts) → Inhabited (Init actor d c)
-some_init actor d c = let x = some_assignment d in record { marked = x.marked; tree = record { body = x.tree; counts = c; ends_if = false }; rule = (x.rule.0, change x.rule.0 x.rule.1, refl) }
+pub some_init : (home : RoutineKind) (d : ℕ) (c : Counts) → Inhabited (Init home d c)
+some_init home d c = let x = some_assignment d in record { marked = x.marked; tree = record { body = x.tree; counts = c; ends_if = false }; rule = (x.rule.0, change x.rule.0 x.rule.1, refl) }
 
-pub some_unended : (actor : Bool) (d : ℕ) (c : Counts) → Inhabited (Unended actor d c)
-some_unended actor d c = let x = some_init actor d c in record { marked = x.marked; tree = x.tree; rule = (init_unended x.rule.1, x.rule.2) }
+pub some_unended : (home : RoutineKind) (d : ℕ) (c : Counts) → Inhabited (Unended home d c)
+some_unended home d c = let x = some_init home d c in record { marked = x.marked; tree = x.tree; rule = (init_unended x.rule.1, x.rule.2) }
 
-pub some_simple : (actor : Bool) (d : ℕ) (c : Counts) → Inhabited (Simple actor d c)
-some_simple actor d c = let x = some_unended actor d c in record { marked = x.marked ++ sign_at sign.Semicolon nowhere ∷ []; tree = x.tree; rule = (nowhere, x.marked, x.rule, refl) }
+pub some_simple : (home : RoutineKind) (d : ℕ) (c : Counts) → Inhabited (Simple home d c)
+some_simple home d c = let x = some_unended home d c in record { marked = x.marked ++ sign_at sign.Semicolon nowhere ∷ []; tree = x.tree; rule = (nowhere, x.marked, x.rule, refl) }
 
 pub some_maybe : (d : ℕ) → Inhabited (MaybeExpr d)
 some_maybe d = record { marked = sign_at sign.Semicolon nowhere ∷ []; tree = None; rule = (nowhere, [], no_expr, refl) }
 
-pub some_start : (actor : Bool) (d : ℕ) (c : Counts) → Inhabited (StartPart actor d c)
-some_start actor d c = record { marked = sign_at sign.Semicolon nowhere ∷ []; tree = (End, c); rule = (nowhere, [], no_init, refl) }
+pub some_returned : (home : RoutineKind) (d : ℕ) → Inhabited (Returned home d)
+some_returned home d = let e = some_expr d in record { marked = e.marked ++ sign_at sign.Semicolon nowhere ∷ []; tree = Some e.tree; rule = (nowhere, e.marked, something e.rule, refl) }
+
+pub some_gives : Inhabited Gives
+some_gives = record { marked = word_at word.NoResult nowhere ∷ []; tree = NothingType; rule = gives_nothing nowhere }
+
+pub some_start : (home : RoutineKind) (d : ℕ) (c : Counts) → Inhabited (StartPart home d c)
+some_start home d c = record { marked = sign_at sign.Semicolon nowhere ∷ []; tree = (End, c); rule = (nowhere, [], no_init, refl) }
 
 pub some_next : (d : ℕ) (c : Counts) → Inhabited (NextPart d c)
 some_next d c = record { marked = sign_at sign.CloseRound nowhere ∷ []; tree = (End, c); rule = (nowhere, [], no_step, refl) }
 
-pub some_else : (actor : Bool) (d : ℕ) (o : Out) → Inhabited (ElsePart actor d o)
-some_else actor d o = record { marked = []; tree = None; rule = refl }
+pub some_else : (home : RoutineKind) (d : ℕ) (o : Out) → Inhabited (ElsePart home d o)
+some_else home d o = record { marked = []; tree = None; rule = refl }
 
-pub some_plain : (actor : Bool) (d : ℕ) (c : Counts) → Inhabited (Plain actor d c)
-some_plain actor d c = record {
+pub some_plain : (home : RoutineKind) (d : ℕ) (c : Counts) → Inhabited (Plain home d c)
+some_plain home d c = record {
   marked = word_at word.Break nowhere ∷ sign_at sign.Semicolon nowhere ∷ [];
   tree = record { body = BreakStmt nowhere End; counts = c; ends_if = false };
   rule = (nowhere, break_stmt nowhere nowhere);
 }
 
-pub some_one : (actor : Bool) (d : ℕ) (c : Counts) → Inhabited (One actor d c)
-some_one actor d c = let x = some_plain actor d (one_statement c) in record { marked = begin_statement c d x.marked; tree = x.tree; rule = plain_stmt x.rule.0 x.marked x.rule.1 refl }
+pub some_one : (home : RoutineKind) (d : ℕ) (c : Counts) → Inhabited (One home d c)
+some_one home d c = let x = some_plain home d (one_statement c) in record { marked = begin_statement c d x.marked; tree = x.tree; rule = plain_stmt x.rule.0 x.marked x.rule.1 refl }
 
-pub some_closing : (actor : Bool) (d : ℕ) (c : Counts) → Inhabited (Closing actor d c)
-some_closing actor d c = record { marked = sign_at sign.CloseCurly nowhere ∷ []; tree = record { body = End; counts = c; close = nowhere }; rule = ([], no_stmts, refl) }
+pub some_closing : (home : RoutineKind) (d : ℕ) (c : Counts) → Inhabited (Closing home d c)
+some_closing home d c = record { marked = sign_at sign.CloseCurly nowhere ∷ []; tree = record { body = End; counts = c; close = nowhere }; rule = ([], no_stmts, refl) }
 
-pub some_block : (actor : Bool) (d : ℕ) (c : Counts) → Inhabited (Block actor d c)
-some_block actor d c = record {
+pub some_block : (home : RoutineKind) (d : ℕ) (c : Counts) → Inhabited (Block home d c)
+some_block home d c = record {
   marked = sign_at sign.OpenCurly nowhere ∷ sign_at sign.CloseCurly nowhere ∷ [];
   tree = record { body = End; counts = c; close = nowhere };
   rule = (nowhere, [], no_stmts, refl);
 }
 
-pub some_body : (actor : Bool) (d : ℕ) (c : Counts) → Inhabited (BodyPart actor d c)
-some_body actor d c = record {
+pub some_body : (home : RoutineKind) (d : ℕ) (c : Counts) → Inhabited (BodyPart home d c)
+some_body home d c = record {
   marked = sign_at sign.OpenCurly nowhere ∷ sign_at sign.CloseCurly nowhere ∷ [];
   tree = record { body = End; counts = c; ends_if = false };
   rule = block_body (braces nowhere nowhere [] no_stmts refl);
@@ -156,18 +163,18 @@ some_catch = record {
   rule = (nowhere, nowhere, nowhere, nowhere, refl);
 }
 
-pub some_when : (actor : Bool) (d n : ℕ) (c : Counts) → Inhabited (WhenPart actor d n c)
-some_when actor d n c =
-    let y = some_waiting actor d c in
-    let o = some_body actor (suc d) y.tree.1 in
+pub some_when : (home : RoutineKind) (d n : ℕ) (c : Counts) → Inhabited (WhenPart home d n c)
+some_when home d n c =
+    let y = some_waiting home d c in
+    let o = some_body home (suc d) y.tree.1 in
     record {
       marked = opens (Branch n ∷ Node d ∷ []) (token.Word word.When) nowhere ∷ sign_at sign.OpenRound nowhere ∷ (y.marked ++ (sign_at sign.CloseRound nowhere ∷ o.marked));
       tree = record { at = nowhere; waiting = y.tree.0; body = o.tree.body; counts = o.tree.counts };
       rule = λ bs. branch nowhere nowhere nowhere y.marked o.marked y.rule o.rule refl;
     }
 
-pub some_whens : (actor : Bool) (d n : ℕ) (c : Counts) → Inhabited (WhensPart actor d n c)
-some_whens actor d n c = record { marked = sign_at sign.CloseCurly nowhere ∷ []; tree = (NoBranches, c); rule = (nowhere, [], no_whens, refl) }
+pub some_whens : (home : RoutineKind) (d n : ℕ) (c : Counts) → Inhabited (WhensPart home d n c)
+some_whens home d n c = record { marked = sign_at sign.CloseCurly nowhere ∷ []; tree = (NoBranches, c); rule = (nowhere, [], no_whens, refl) }
 
 pub some_param : (n : ℕ) → Inhabited (ParamRule n)
 some_param n = let t = some_type 1 in record { marked = begin (Variable n) (t.marked ++ name_at name ∷ []); tree = record { ty = t.tree; name = name }; rule = param name t.marked t.rule refl }
@@ -181,8 +188,8 @@ some_more_params n = record { marked = sign_at sign.CloseRound nowhere ∷ []; t
 pub some_params : Inhabited Params
 some_params = record { marked = sign_at sign.CloseRound nowhere ∷ []; tree = []; rule = (nowhere, [], no_params, refl) }
 
-pub some_routine : (actor : Bool) → Inhabited (Routine actor)
-some_routine actor = record {
+pub some_routine : (home : RoutineKind) → Inhabited (Routine home)
+some_routine home = record {
   marked = name_at name ∷ sign_at sign.OpenRound nowhere ∷ sign_at sign.CloseRound nowhere ∷ sign_at sign.OpenCurly nowhere ∷ sign_at sign.CloseCurly nowhere ∷ [];
   tree = record { name = name; params = []; body = End; close = nowhere };
   rule = λ at t. routine nowhere nowhere nowhere nowhere name [] [] no_params no_stmts refl;
@@ -203,9 +210,9 @@ some_all_fields =
     one : {A : Type 0} (x : A) → 0 < length (x ∷ [])
     one x = omega arith
 
-pub some_all_whens : (actor : Bool) (d : ℕ) (c : Counts) → Inhabited (AllWhens actor d c)
-some_all_whens actor d c =
-    let x = some_when actor d 1 c in
+pub some_all_whens : (home : RoutineKind) (d : ℕ) (c : Counts) → Inhabited (AllWhens home d c)
+some_all_whens home d c =
+    let x = some_when home d 1 c in
     record {
       marked = x.marked ++ ([] ++ sign_at sign.CloseCurly nowhere ∷ []);
       tree = (MoreBranches x.tree.at x.tree.waiting x.tree.body NoBranches, x.tree.counts);

@@ -1,5 +1,6 @@
 -- A statement alone is also a statement before others.
 use Rattle.std.proofs.Common.{ℕ, Bool, List}
+use Rattle.flow_tree.specs.declared.decl.RoutineKind.{RoutineKind}
 use Rattle.flow_base.specs.declared.place.Place.{Place}
 use Rattle.flow_tree.specs.Body.{Body, End}
 use Rattle.flow_tree.specs.GrammarToken.{Marked}
@@ -13,13 +14,13 @@ lift_assign rest (minus at p path value r e f g) = minus at p path value r e f g
 lift_assign rest (up at p path r f g) = up at p path r f g
 lift_assign rest (down at p path r f g) = down at p path r f g
 
-lift_init : {actor : Bool} {d : ℕ} {c c' : Counts} {w : List Marked} {p : Place} {s : Body} (rest : Body) → InitRule actor d c c' w p End s → InitRule actor d c c' w p rest (put_before s rest)
+lift_init : {home : RoutineKind} {d : ℕ} {c c' : Counts} {w : List Marked} {p : Place} {s : Body} (rest : Body) → InitRule home d c c' w p End s → InitRule home d c c' w p rest (put_before s rest)
 lift_init rest (declare at i s) = declare at i s
 lift_init rest (declare_value at p left value i e f s) = declare_value at p left value i e f s
 lift_init rest (change at r) = change at (lift_assign rest r)
 
-lift_plain : {actor : Bool} {d : ℕ} {c c' : Counts} {w : List Marked} {p : Place} {s : Body} {b : Bool} (rest : Body) → PlainRule actor d c c' w p End s b
-    → PlainRule actor d c c' w p rest (put_before s rest) b
+lift_plain : {home : RoutineKind} {d : ℕ} {c c' : Counts} {w : List Marked} {p : Place} {s : Body} {b : Bool} (rest : Body) → PlainRule home d c c' w p End s b
+    → PlainRule home d c c' w p rest (put_before s rest) b
 lift_plain rest (if_stmt at p q test body e b f) = if_stmt at p q test body e b f
 lift_plain rest (if_else_stmt at p q r test body other e b o f) = if_else_stmt at p q r test body other e b o f
 lift_plain rest (while_stmt at p q test body e b f) = while_stmt at p q test body e b f
@@ -35,6 +36,6 @@ lift_plain rest (init_stmt at p xs i f) = init_stmt at p xs (lift_init rest i) f
 lift_plain rest (wait_stmt at p xs w f s) = wait_stmt at p xs w f s
 lift_plain rest (call_stmt at p q r path args x a f s) = call_stmt at p q r path args x a f s
 
-pub lift : {actor : Bool} {d : ℕ} {c c' : Counts} {w : List Marked} {s : Body} {b : Bool} (rest : Body) → StmtRule actor d c c' w End s b → StmtRule actor d c c' w rest (put_before s rest) b
+pub lift : {home : RoutineKind} {d : ℕ} {c c' : Counts} {w : List Marked} {s : Body} {b : Bool} (rest : Body) → StmtRule home d c c' w End s b → StmtRule home d c c' w rest (put_before s rest) b
 lift rest (block_stmt at xs b s f) = block_stmt at xs b s f
 lift rest (plain_stmt at xs p f) = plain_stmt at xs (lift_plain rest p) f

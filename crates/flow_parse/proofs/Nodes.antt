@@ -4,7 +4,7 @@ use Rattle.std.proofs.Common.{ℕ, zero, suc, ◌≤◌, List, [], ◌∷◌, �
 use Rattle.flow_tree.specs.declared.limits.Limits.{Limits}
 use Rattle.flow_tree.specs.Tree.{TypeTree, ExprTree, ExprTrees}
 use Rattle.flow_tree.specs.GrammarToken.{Part, Declaration, Statement, Node, Variable, Branch, Marked, begin, AllInLimitsOf, KeepsOf}
-use Rattle.flow_tree.specs.Grammar.{ExprRule, number, text, truth, falsehood, void, variable, call, paren, field, method, negation, minus, binary, ArgsRule, no_args, some_args, MoreArgsRule, end_args, more_args, TypeRule, int_type, bool_type, string_type, void_type, error_type, named_type, wrapped_type}
+use Rattle.flow_tree.specs.Grammar.{ExprRule, number, text, truth, falsehood, void, variable, call, paren, field, method, index, negation, minus, binary, ArgsRule, no_args, some_args, MoreArgsRule, end_args, more_args, TypeRule, int_type, bool_type, string_type, void_type, error_type, named_type, wrapped_type}
 
 abbrev pub OnlyNodes : List Part → Type 0
 OnlyNodes [] = Unit {0}
@@ -41,6 +41,8 @@ mutual
   expr_nodes {d = d} (field p x of r e) = subst Nodes (sym e) (nodes_append (begin (Node d) of) _ (nodes_begin d of (expr_nodes r)) (tt, (tt, tt)))
   expr_nodes {d = d} (method p q r f of args t a e) = subst Nodes (sym e)
       (nodes_append (begin (Node d) of) _ (nodes_begin d of (expr_nodes t)) (tt, (tt, (tt, nodes_append args _ (args_nodes a) (tt, tt)))))
+  expr_nodes {d = d} (index p q of at t i e) = subst Nodes (sym e)
+      (nodes_append (begin (Node d) of) _ (nodes_begin d of (expr_nodes t)) (tt, nodes_append at _ (expr_nodes i) (tt, tt)))
   expr_nodes (negation p of h r e) = subst Nodes (sym e) (tt, expr_nodes r)
   expr_nodes (minus p of h r e) = subst Nodes (sym e) (tt, expr_nodes r)
   expr_nodes {d = d} (binary op p left right h a b e) = subst Nodes (sym e) (nodes_append (begin (Node d) left) _ (nodes_begin d left (expr_nodes a)) (tt, expr_nodes b))

@@ -1,5 +1,5 @@
 -- Tokens are one program at most.
-use Rattle.std.proofs.Common.{◌≡◌, ℕ, zero, suc, Bool, true, false, List, [], ◌∷◌, length, refl, sym, ap, ◌∙◌, subst, arith, inl, inr}
+use Rattle.std.proofs.Common.{◌≡◌, ℕ, zero, suc, List, [], ◌∷◌, length, refl, sym, ap, ◌∙◌, subst, arith, inl, inr}
 use Rattle.std.proofs.lemmas.List.{append-nil}
 use Rattle.std.specs.declared.option.Option.{Option}
 use Rattle.std.specs.declared.option.Option.TheVariants.{None, Some}
@@ -9,6 +9,9 @@ use Rattle.flow_tree.specs.declared.token.Token.TheVariants as token
 use Rattle.flow_tree.specs.declared.token.Word.TheVariants as word
 use Rattle.flow_tree.specs.declared.token.Sign.TheVariants as sign
 use Rattle.flow_tree.specs.declared.token.Spot.{Spot}
+use Rattle.flow_tree.specs.declared.decl.RoutineKind.{RoutineKind}
+use Rattle.flow_tree.specs.declared.decl.RoutineKind.TheVariants as routines
+use Rattle.flow_tree.specs.Tree.{NothingType}
 use Rattle.flow_tree.specs.Decls.{StructDecl, FunctionDecl, ActorDecl, ProgramTree}
 use Rattle.flow_tree.specs.GrammarToken.{Declaration, Node, Variable, Marked, spots_of, Derives}
 use Rattle.flow_tree.specs.Grammar.{TypeRule}
@@ -16,10 +19,10 @@ use Rattle.flow_tree.specs.GrammarDecl.{ParamRule, DeclRule, DeclsRule, ProgramR
 use Rattle.flow_parse.specs.Openers.{TypeToken, DeclToken}
 use Rattle.flow_parse.specs.Reading.{Tok, Named, Then, Any}
 use Rattle.flow_parse.specs.Follow.{AtEnd}
-use Rattle.flow_parse.specs.Parts.{Placed, Marks, Block, FieldsPart, AllFields, MoreParams, Params, Routine}
+use Rattle.flow_parse.specs.Parts.{Placed, Marks, Block, FieldsPart, AllFields, MoreParams, Params, Routine, Record, Function, Gives, Actor}
 use Rattle.flow_parse.proofs.Shapes.{TypeName}
-use Rattle.flow_parse.proofs.DeclBacks.{param_back, param_starts, no_params_back, params_back, more_params_back, end_params_back, end_fields_back, more_fields_back, all_fields_back, RecordSeq, RoutineSeq, routine_back, FunctionSeq, function_tree, ActorSeq, actor_tree, record_back, actor_back, function_back, decl_marks_starts, DeclMarks, end_decls_back, decls_back}
-use Rattle.flow_parse.proofs.Unique.{Uniq, UniqAt, uniq_by, at_nil, at_narrow, narrowed, uniq_opening, uniq_name, uniq_marks, uniq_placed, seq, seq_less, seq_tok, same_tok, at_close, at_comma, at_close_curly, at_struct, at_actor}
+use Rattle.flow_parse.proofs.DeclBacks.{param_back, param_starts, no_params_back, params_back, more_params_back, end_params_back, end_fields_back, more_fields_back, all_fields_back, RecordSeq, record_tree, RoutineSeq, routine_back, FunctionSeq, function_tree, GivesSeq, gives_nothing_back, gives_back, ActorSeq, actor_tree, record_part_back, function_part_back, actor_part_back, record_kind_back, actor_kind_back, function_kind_back, decl_marks_starts, DeclMarks, end_decls_back, decls_back}
+use Rattle.flow_parse.proofs.Unique.{Uniq, UniqAt, uniq_by, at_nil, at_narrow, narrowed, uniq_opening, uniq_name, uniq_marks, uniq_placed, seq, seq_less, seq_tok, same_tok, at_close, at_comma, at_close_curly, at_struct, at_no_result, at_actor}
 use Rattle.flow_parse.proofs.UniqueTypes.{uniq_type}
 use Rattle.flow_parse.proofs.UniqueStmts.{uniq_block}
 
@@ -65,32 +68,46 @@ uniq_all_fields k = narrowed AllFields Any (Then (ParamRule 1) (λ f. Then (Tok 
     (λ f. same_tok [] (token.Sign sign.Semicolon) (λ p. FieldsPart 2) Any k (λ p. uniq_fields k 2)))
 
 -- declarations
-uniq_routine : (actor : Bool) (k : ℕ) → Uniq k (Routine actor) Any
-uniq_routine actor k = narrowed (Routine actor) Any (RoutineSeq actor) Any (λ x. record { name = x.0; params = x.1.1.0; body = x.1.1.1.body; close = x.1.1.1.close }) k (λ w z b r f. routine_back z r)
-    (seq Named Any (λ x. Then (Tok (token.Sign sign.OpenRound)) (λ p. Then Params (λ ps. Block actor 2 (record { statements = 0; variables = length ps })))) Any k (λ a b v z r f. tt) (uniq_name k)
+uniq_routine : (home : RoutineKind) (k : ℕ) → Uniq k (Routine home) Any
+uniq_routine home k = narrowed (Routine home) Any (RoutineSeq home) Any (λ x. record { name = x.0; params = x.1.1.0; body = x.1.1.1.body; close = x.1.1.1.close }) k (λ w z b r f. routine_back z r)
+    (seq Named Any (λ x. Then (Tok (token.Sign sign.OpenRound)) (λ p. Then Params (λ ps. Block home 2 (record { statements = 0; variables = length ps })))) Any k (λ a b v z r f. tt) (uniq_name k)
     (λ x.
-    same_tok [] (token.Sign sign.OpenRound) (λ p. Then Params (λ ps. Block actor 2 (record { statements = 0; variables = length ps }))) Any k (λ p.
-    seq Params Any (λ ps. Block actor 2 (record { statements = 0; variables = length ps })) Any k (λ a b v z r f. tt) (uniq_params k)
-    (λ ps. uniq_block actor 2 (record { statements = 0; variables = length ps }) k))))
+    same_tok [] (token.Sign sign.OpenRound) (λ p. Then Params (λ ps. Block home 2 (record { statements = 0; variables = length ps }))) Any k (λ p.
+    seq Params Any (λ ps. Block home 2 (record { statements = 0; variables = length ps })) Any k (λ a b v z r f. tt) (uniq_params k)
+    (λ ps. uniq_block home 2 (record { statements = 0; variables = length ps }) k))))
+
+uniq_record : (k : ℕ) → Uniq k Record Any
+uniq_record k = narrowed Record Any RecordSeq Any record_tree k (λ w z b r f. record_part_back z r)
+    (same_tok [] (token.Word word.Struct) (λ p. Then Named (λ x. Then (Tok (token.Sign sign.OpenCurly)) (λ q. Then AllFields (λ fs. Tok (token.Sign sign.Semicolon))))) Any k (λ p.
+    seq Named Any (λ x. Then (Tok (token.Sign sign.OpenCurly)) (λ q. Then AllFields (λ fs. Tok (token.Sign sign.Semicolon)))) Any k (λ a b v z r f. tt) (uniq_name k) (λ x.
+    same_tok [] (token.Sign sign.OpenCurly) (λ q. Then AllFields (λ fs. Tok (token.Sign sign.Semicolon))) Any k
+    (λ q. seq AllFields Any (λ fs. Tok (token.Sign sign.Semicolon)) Any k (λ a b v z r f. tt) (uniq_all_fields k) (λ fs. uniq_opening [] (token.Sign sign.Semicolon) k)))))
+
+uniq_function : (home : RoutineKind) (k : ℕ) → Uniq k (Function home) Any
+uniq_function home k = narrowed (Function home) Any (FunctionSeq home) Any function_tree k (λ w z b r f. function_part_back z r)
+    (seq (Placed (TypeRule 1)) Any (λ y. Routine home) Any k (λ a b v z r f. tt) (uniq_placed (TypeRule 1) Any k (uniq_type k 1)) (λ y. uniq_routine home k))
+
+uniq_gives : (k : ℕ) → Uniq k Gives Any
+uniq_gives k = uniq_by Gives Any k (λ o. elim (at_no_result o) [
+  | inl e ↦ subst (λ y. UniqAt y k Gives Any) (sym e) (at_narrow Gives Any (Tok (token.Word word.NoResult)) Any (λ p. NothingType) k (Some (token.Word word.NoResult))
+      (λ w z b r f l. gives_nothing_back z r l) (uniq_opening [] (token.Word word.NoResult) k))
+  | inr n ↦ at_narrow Gives Any GivesSeq Any (λ x. x.1.1.0) k o (λ w z b r f l. gives_back z o n r l)
+      (same_tok [] (token.Word word.Future) (λ q. Then (Tok (token.Sign sign.Less)) (λ s. Then (TypeRule 2) (λ y. Tok (token.Sign sign.Greater)))) Any k (λ q.
+      same_tok [] (token.Sign sign.Less) (λ s. Then (TypeRule 2) (λ y. Tok (token.Sign sign.Greater))) Any k (λ s.
+      seq (TypeRule 2) Any (λ y. Tok (token.Sign sign.Greater)) Any k (λ a b v z r f. tt) (uniq_type k 2) (λ y. uniq_opening [] (token.Sign sign.Greater) k))))
+])
+
+uniq_actor : (k : ℕ) → Uniq k Actor Any
+uniq_actor k = narrowed Actor Any ActorSeq Any actor_tree k (λ w z b r f. actor_part_back z r)
+    (same_tok [] (token.Word word.Actor) (λ p. Then Gives (λ y. Routine routines.Actor)) Any k (λ p.
+    seq Gives Any (λ y. Routine routines.Actor) Any k (λ a b v z r f. tt) (uniq_gives k) (λ y. uniq_routine routines.Actor k)))
 
 uniq_decl : (k : ℕ) → Uniq k DeclRule Any
 uniq_decl k = uniq_by DeclRule Any k (λ o. elim (at_struct o) [
-  | inl e ↦ subst (λ y. UniqAt y k DeclRule Any) (sym e) (at_narrow DeclRule Any RecordSeq Any (λ x. StructDecl (record { at = x.0; name = x.1.0; fields = x.1.1.1.0 })) k
-      (Some (token.Word word.Struct)) (λ w z b r f l. record_back z r l)
-      (same_tok [] (token.Word word.Struct) (λ p. Then Named (λ x. Then (Tok (token.Sign sign.OpenCurly)) (λ q. Then AllFields (λ fs. Tok (token.Sign sign.Semicolon))))) Any k (λ p.
-      seq Named Any (λ x. Then (Tok (token.Sign sign.OpenCurly)) (λ q. Then AllFields (λ fs. Tok (token.Sign sign.Semicolon)))) Any k (λ a b v z r f. tt) (uniq_name k) (λ x.
-      same_tok [] (token.Sign sign.OpenCurly) (λ q. Then AllFields (λ fs. Tok (token.Sign sign.Semicolon))) Any k
-      (λ q. seq AllFields Any (λ fs. Tok (token.Sign sign.Semicolon)) Any k (λ a b v z r f. tt) (uniq_all_fields k) (λ fs. uniq_opening [] (token.Sign sign.Semicolon) k))))))
+  | inl e ↦ subst (λ y. UniqAt y k DeclRule Any) (sym e) (at_narrow DeclRule Any Record Any StructDecl k (Some (token.Word word.Struct)) (λ w z b r f l. record_kind_back z r l) (uniq_record k))
   | inr n ↦ elim (at_actor o) [
-    | inl e ↦ subst (λ y. UniqAt y k DeclRule Any) (sym e) (at_narrow DeclRule Any ActorSeq Any (λ x. ActorDecl (actor_tree x)) k (Some (token.Word word.Actor)) (λ w z b r f l. actor_back z r l)
-        (same_tok [] (token.Word word.Actor) (λ p. Then (Tok (token.Word word.Future))
-        (λ q. Then (Tok (token.Sign sign.Less)) (λ s. Then (TypeRule 2) (λ y. Then (Tok (token.Sign sign.Greater)) (λ v. Routine true))))) Any k (λ p.
-        same_tok [] (token.Word word.Future) (λ q. Then (Tok (token.Sign sign.Less)) (λ s. Then (TypeRule 2) (λ y. Then (Tok (token.Sign sign.Greater)) (λ v. Routine true)))) Any k (λ q.
-        same_tok [] (token.Sign sign.Less) (λ s. Then (TypeRule 2) (λ y. Then (Tok (token.Sign sign.Greater)) (λ v. Routine true))) Any k (λ s.
-        seq (TypeRule 2) Any (λ y. Then (Tok (token.Sign sign.Greater)) (λ v. Routine true)) Any k (λ a b v z r f. tt) (uniq_type k 2)
-        (λ y. same_tok [] (token.Sign sign.Greater) (λ v. Routine true) Any k (λ v. uniq_routine true k)))))))
-    | inr m ↦ at_narrow DeclRule Any FunctionSeq Any (λ x. FunctionDecl (function_tree x)) k o (λ w z b r f l. function_back z o n m r l)
-        (seq (Placed (TypeRule 1)) Any (λ y. Routine false) Any k (λ a b v z r f. tt) (uniq_placed (TypeRule 1) Any k (uniq_type k 1)) (λ y. uniq_routine false k))
+    | inl e ↦ subst (λ y. UniqAt y k DeclRule Any) (sym e) (at_narrow DeclRule Any Actor Any ActorDecl k (Some (token.Word word.Actor)) (λ w z b r f l. actor_kind_back z r l) (uniq_actor k))
+    | inr m ↦ at_narrow DeclRule Any (Function routines.Function) Any FunctionDecl k o (λ w z b r f l. function_kind_back z o n m r l) (uniq_function routines.Function k)
   ]
 ])
 

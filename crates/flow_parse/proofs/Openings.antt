@@ -1,5 +1,5 @@
 -- A token with which parts begin that are past a limit.
-use Rattle.std.proofs.Common.{◌≡◌, ℕ, suc, ◌+◌, ◌≤◌, ◌<◌, true, List, [], ◌∷◌, ◌++◌, length, take, drop, refl, sym, ap, subst, arith}
+use Rattle.std.proofs.Common.{◌≡◌, ℕ, suc, ◌+◌, ◌≤◌, ◌<◌, List, [], ◌∷◌, ◌++◌, length, take, drop, refl, sym, ap, subst, arith}
 use Rattle.std.specs.declared.option.Option.TheVariants.{Some}
 use Rattle.flow_tree.specs.declared.limits.Limits.{Limits}
 use Rattle.flow_base.specs.declared.place.Place.{Place}
@@ -10,6 +10,7 @@ use Rattle.flow_tree.specs.declared.token.Token.TheVariants as token
 use Rattle.flow_tree.specs.declared.token.Word.TheVariants as word
 use Rattle.flow_tree.specs.declared.token.Spot.{Spot}
 use Rattle.flow_tree.specs.declared.token.Tokens.{Tokens}
+use Rattle.flow_tree.specs.declared.decl.RoutineKind.TheVariants.{Actor}
 use Rattle.flow_tree.specs.GrammarToken.{Part, Variable, opens, AllInLimitsOf, GoodOf}
 use Rattle.flow_tree.specs.GrammarAnswer.{place_at}
 use Rattle.flow_tree.specs.GrammarStmt.{Counts}
@@ -51,7 +52,7 @@ opening_beyond limits ps x n t at l h e out keep =
 
 -- one state variable too many
 pub state_fails : (limits : Limits) (t : Tokens) (at : ℕ) (c : Counts) → at ≤ length t.spots.items → token_at t.spots.items at ≡ Some (token.Word word.State) → limits.variables ≤ c.variables
-    → Fails limits (StatePart true c) (NotBefore (token.Word word.State)) t at (Refused (rule.L 6) (place_at t at))
-state_fails limits t at c h e k = fails limits t (narrow limits t.spots.items e (state_turns limits t at true c) (nothing limits t.spots.items (StatePart true c) _ at h))
+    → Fails limits (StatePart Actor c) (NotBefore (token.Word word.State)) t at (Refused (rule.L 6) (place_at t at))
+state_fails limits t at c h e k = fails limits t (narrow limits t.spots.items e (state_turns limits t at Actor c) (nothing limits t.spots.items (StatePart Actor c) _ at h))
     (Refused (rule.L 6) (place_at t at)) (opening_beyond limits (Variable (suc c.variables) ∷ []) (token.Word word.State) 6 t at (omega arith) (omega arith) e
     (λ l. omega (arith, l.0 (omega arith), k)) (λ m lt. ((λ l. absurd (omega arith)), tt)))

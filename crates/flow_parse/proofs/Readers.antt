@@ -182,24 +182,28 @@ module _ (limits : Limits) {A : Type 0} (R : List Marked → A → Type 0) (F : 
 kind_ends : (b : ExprTree) (d : ℕ) (k : Kind) → EndsExpr k → step_have b (Top d) k ≡ Dead
 kind_ends b d kind.Close e = refl
 kind_ends b d kind.Comma e = refl
+kind_ends b d kind.CloseSquare e = refl
 kind_ends b d kind.Other e = refl
 kind_ends b d kind.Leaf e = absurd e
 kind_ends b d kind.Name e = absurd e
 kind_ends b d kind.Void e = absurd e
 kind_ends b d kind.Open e = absurd e
 kind_ends b d kind.Dot e = absurd e
+kind_ends b d kind.OpenSquare e = absurd e
 kind_ends b d kind.Not e = absurd e
 kind_ends b d (kind.Op op) e = absurd e
 
 kind_stops : (k : Kind) → EndsExpr k → NotOpen k × KindStops 1 VoidExpr k
 kind_stops kind.Close e = (tt, tt)
 kind_stops kind.Comma e = (tt, tt)
+kind_stops kind.CloseSquare e = (tt, tt)
 kind_stops kind.Other e = (tt, tt)
 kind_stops kind.Leaf e = absurd e
 kind_stops kind.Name e = absurd e
 kind_stops kind.Void e = absurd e
 kind_stops kind.Open e = absurd e
 kind_stops kind.Dot e = absurd e
+kind_stops kind.OpenSquare e = absurd e
 kind_stops kind.Not e = absurd e
 kind_stops (kind.Op op) e = absurd e
 

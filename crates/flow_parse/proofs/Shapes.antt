@@ -1,6 +1,7 @@
 -- Parts and trees that several proofs name.
-use Rattle.std.specs.Prelude.{◌≡◌, ℕ, Bool, false, List}
+use Rattle.std.specs.Prelude.{◌≡◌, ℕ, false, List}
 use Rattle.flow_tree.specs.declared.ty.Ident.{Ident}
+use Rattle.flow_tree.specs.declared.decl.RoutineKind.{RoutineKind}
 use Rattle.flow_tree.specs.Tree.{TypeTree}
 use Rattle.flow_tree.specs.Body.{Body}
 use Rattle.flow_tree.specs.GrammarToken.{Marked}
@@ -15,8 +16,8 @@ closed b c = record { body = b; counts = c; ends_if = false }
 abbrev pub with : Body → Out → Out
 with b o = record { body = b; counts = o.counts; ends_if = o.ends_if }
 
-abbrev pub ClosedBody : Bool → ℕ → Counts → List Marked → Out → Type 0
-ClosedBody actor d c w o = BodyPart actor d c w o × (o.ends_if ≡ false)
+abbrev pub ClosedBody : RoutineKind → ℕ → Counts → List Marked → Out → Type 0
+ClosedBody home d c w o = BodyPart home d c w o × (o.ends_if ≡ false)
 
 abbrev pub TypeName : List Marked → TypeTree × Ident → Type 0
 TypeName w x = Then (TypeRule 1) (λ y. Named) w x

@@ -9,6 +9,7 @@ use Rattle.flow_tree.specs.declared.token.Word.TheVariants as word
 use Rattle.flow_tree.specs.declared.token.Sign.{Sign}
 use Rattle.flow_tree.specs.declared.token.Sign.TheVariants as sign
 use Rattle.flow_tree.specs.declared.ty.Ident.{Ident}
+use Rattle.flow_tree.specs.declared.decl.RoutineKind.{RoutineKind}
 use Rattle.flow_tree.specs.Tree.{TypeTree, ExprTree, ExprTrees, NoExprs, MoreExprs}
 use Rattle.flow_tree.specs.Body.{IntoTree, WaitTree, PlusChange, MinusChange, UpChange, DownChange, Body, End, DeclareStmt, AssignStmt, ModifyStmt, CallStmt, WaitStmt}
 use Rattle.flow_tree.specs.GrammarToken.{Marked, opens}
@@ -35,24 +36,24 @@ test_back {d = d} {e = e} z r = record {
 }
 
 -- the word `state`, or nothing
-pub state_back : {actor : Bool} {c c' : Counts} {w : List Marked} {s : Bool} (z : List Marked) → StateRule actor c c' w s → NotBefore (token.Word word.State) {A = Bool × Counts} (s, c') z
+pub state_back : {home : RoutineKind} {c c' : Counts} {w : List Marked} {s : Bool} (z : List Marked) → StateRule home c c' w s → NotBefore (token.Word word.State) {A = Bool × Counts} (s, c') z
     → Looks (Some (token.Word word.State)) (w ++ z)
-    → Back (StatePart actor c) (NotBefore (token.Word word.State)) (Opening (state_parts actor c) (token.Word word.State)) Any (λ p. (true, one_state actor c)) w z (s, c')
+    → Back (StatePart home c) (NotBefore (token.Word word.State)) (Opening (state_parts home c) (token.Word word.State)) Any (λ p. (true, one_state home c)) w z (s, c')
 state_back [] no_state f l = absurd l
 state_back (y ∷ z) no_state f l = absurd (f l)
 state_back z (some_state p) f l = record { tree = p; rule = refl; is = refl; follows = tt }
 
-pub no_state_back : {actor : Bool} {c c' : Counts} {w : List Marked} {s : Bool} (z : List Marked) (o : Option Token) → (o ≡ Some (token.Word word.State) → ⊥) → StateRule actor c c' w s
+pub no_state_back : {home : RoutineKind} {c c' : Counts} {w : List Marked} {s : Bool} (z : List Marked) (o : Option Token) → (o ≡ Some (token.Word word.State) → ⊥) → StateRule home c c' w s
     → Looks o (w ++ z) → (◌≡◌ {A = Bool × Counts} (s, c') (false, c)) × (w ≡ [])
 no_state_back z o n no_state l = (refl, refl)
-no_state_back {actor = actor} {c = c} z o n (some_state p) l = absurd (n (looks_first o (opens (state_parts actor c) (token.Word word.State) p) z l))
+no_state_back {home = home} {c = c} z o n (some_state p) l = absurd (n (looks_first o (opens (state_parts home c) (token.Word word.State) p) z l))
 
 -- [ "state" ] type name
-pub into_back : {actor : Bool} {d : ℕ} {c c' : Counts} {w : List Marked} {i : IntoTree} (z : List Marked) → IntoRule actor d c c' w i
-    → Back (IntoPart actor d c) Any (Then (StatePart actor c) (λ s. Then (TypeRule d) (λ y. Named))) Any (λ x. (record { state = x.0.0; ty = x.1.0; name = x.1.1 }, x.0.1)) w z (i, c')
-into_back {actor = actor} {d = d} {c = c} {c' = c'} z (declared {s = s} {t = t} x kept of st ty e) = record {
+pub into_back : {home : RoutineKind} {d : ℕ} {c c' : Counts} {w : List Marked} {i : IntoTree} (z : List Marked) → IntoRule home d c c' w i
+    → Back (IntoPart home d c) Any (Then (StatePart home c) (λ s. Then (TypeRule d) (λ y. Named))) Any (λ x. (record { state = x.0.0; ty = x.1.0; name = x.1.1 }, x.0.1)) w z (i, c')
+into_back {home = home} {d = d} {c = c} {c' = c'} z (declared {s = s} {t = t} x kept of st ty e) = record {
   tree = ((s, c'), (t, x));
-  rule = front (StatePart actor c) (s, c') (t, x) kept (of ++ name_at x ∷ []) e st (front (TypeRule d) t x of (name_at x ∷ []) refl ty refl);
+  rule = front (StatePart home c) (s, c') (t, x) kept (of ++ name_at x ∷ []) e st (front (TypeRule d) t x of (name_at x ∷ []) refl ty refl);
   is = refl;
   follows = tt;
 }
@@ -89,20 +90,20 @@ wait_next_back z (wait p q r of x e) l = let k = looks_is (Some (token.Word word
 pub no_wait : {d : ℕ} {w : List Marked} {b : Bool} {e : ExprTree} (z : List Marked) (o : Option Token) → (AsFirst WaitToken o → ⊥) → OperandRule d w b e → Looks o (w ++ z) → ⊥
 no_wait {w = w} z o n r l = n (starts_looks WaitToken w z o (operand_starts r) l)
 
-pub plain_wait_back : {actor : Bool} {d : ℕ} {c c' : Counts} {w : List Marked} {x : WaitTree} (z : List Marked) (o : Option Token) → AsFirst WaitToken o → WaitingRule actor d c c' w x
+pub plain_wait_back : {home : RoutineKind} {d : ℕ} {c c' : Counts} {w : List Marked} {x : WaitTree} (z : List Marked) (o : Option Token) → AsFirst WaitToken o → WaitingRule home d c c' w x
     → Looks o (w ++ z)
-    → Back (WaitingPart actor d c) Any (OperandPart d) Any (λ y. (record { into = None; next = y.0; operand = y.1 }, c)) w z (x, c')
+    → Back (WaitingPart home d c) Any (OperandPart d) Any (λ y. (record { into = None; next = y.0; operand = y.1 }, c)) w z (x, c')
 plain_wait_back z o h (plain_wait {next = b} {e = e} r) l = record { tree = (b, e); rule = r; is = refl; follows = tt }
 plain_wait_back {w = w} z o h (into_wait p left right i r e) l = absurd (wait_no_into o h (starts_looks IntoToken w z o (starts_is IntoToken left (sign_at sign.Assign p ∷ right) e (into_starts i)) l))
 
-pub into_wait_back : {actor : Bool} {d : ℕ} {c c' : Counts} {w : List Marked} {x : WaitTree} (z : List Marked) (o : Option Token) → (AsFirst WaitToken o → ⊥) → WaitingRule actor d c c' w x
+pub into_wait_back : {home : RoutineKind} {d : ℕ} {c c' : Counts} {w : List Marked} {x : WaitTree} (z : List Marked) (o : Option Token) → (AsFirst WaitToken o → ⊥) → WaitingRule home d c c' w x
     → Looks o (w ++ z)
-    → Back (WaitingPart actor d c) Any (Then (IntoPart actor d c) (λ i. Then (Tok (token.Sign sign.Assign)) (λ p. OperandPart d))) Any
+    → Back (WaitingPart home d c) Any (Then (IntoPart home d c) (λ i. Then (Tok (token.Sign sign.Assign)) (λ p. OperandPart d))) Any
     (λ y. (record { into = Some y.0.0; next = y.1.1.0; operand = y.1.1.1 }, y.0.1)) w z (x, c')
 into_wait_back {w = w} z o n (plain_wait r) l = absurd (no_wait z o n r l)
-into_wait_back {actor = actor} {d = d} {c = c} {c' = c'} z o n (into_wait {i = i} {next = b} {e = t} p left right r s e) l = record {
+into_wait_back {home = home} {d = d} {c = c} {c' = c'} z o n (into_wait {i = i} {next = b} {e = t} p left right r s e) l = record {
   tree = ((i, c'), (p, (b, t)));
-  rule = front (IntoPart actor d c) (i, c') (p, (b, t)) left (sign_at sign.Assign p ∷ right) e r (tok_front (token.Sign sign.Assign) p (b, t) right refl s);
+  rule = front (IntoPart home d c) (i, c') (p, (b, t)) left (sign_at sign.Assign p ∷ right) e r (tok_front (token.Sign sign.Assign) p (b, t) right refl s);
   is = refl;
   follows = tt;
 }

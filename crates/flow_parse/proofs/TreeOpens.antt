@@ -11,10 +11,10 @@ use Rattle.flow_tree.specs.declared.token.Word.TheVariants as word
 use Rattle.flow_tree.specs.declared.token.Sign.TheVariants as sign
 use Rattle.flow_tree.specs.declared.token.Spot.{Spot}
 use Rattle.flow_tree.specs.declared.token.Tokens.{Tokens}
-use Rattle.flow_tree.specs.Tree.{IntType, BoolType, StringType, VoidType, ErrorType, NamedType, FutureType, FutureStreamType, PromiseType, PromiseStreamType, ExprTree, IntExpr, TextExpr, BoolExpr, VoidExpr, VarExpr, NotExpr, NegExpr, ParenExpr}
+use Rattle.flow_tree.specs.Tree.{IntType, BoolType, StringType, VoidType, ErrorType, NamedType, FutureType, FutureStreamType, PromiseType, PromiseStreamType, VectorType, ExprTree, IntExpr, TextExpr, BoolExpr, VoidExpr, VarExpr, NotExpr, NegExpr, ParenExpr}
 use Rattle.flow_tree.specs.GrammarToken.{Node, Marked, opens, begin, AllInLimitsOf, GoodOf}
 use Rattle.flow_tree.specs.GrammarAnswer.{place_at}
-use Rattle.flow_tree.specs.Grammar.{TypeRule, int_type, bool_type, string_type, void_type, error_type, named_type, wrapped_type, FutureOf, FutureStreamOf, PromiseOf, PromiseStreamOf, ExprRule, number, text, truth, falsehood, void, variable, call, paren, field, method, negation, minus, binary}
+use Rattle.flow_tree.specs.Grammar.{TypeRule, int_type, bool_type, string_type, void_type, error_type, named_type, wrapped_type, FutureOf, FutureStreamOf, PromiseOf, PromiseStreamOf, VectorOf, ExprRule, number, text, truth, falsehood, void, variable, call, paren, field, method, index, negation, minus, binary}
 use Rattle.flow_exprs.proofs.Goes.{nowhere}
 use Rattle.flow_parse.specs.Failing.{Sees, Fails}
 use Rattle.flow_parse.specs.Reading.{token_at}
@@ -43,6 +43,7 @@ module _ (limits : Limits) (m d : ℕ) (k : 5 ≤ m → d ≤ 64) where
   type_with (token.Word word.Promise) p ts h = one_token limits m d (token.Word word.Promise) p ts _ (PromiseType IntType) k (wrapped_type PromiseOf p nowhere nowhere _ (int_type nowhere) refl)
   type_with (token.Word word.PromiseStream) p ts h = one_token limits m d (token.Word word.PromiseStream) p ts _ (PromiseStreamType IntType) k
       (wrapped_type PromiseStreamOf p nowhere nowhere _ (int_type nowhere) refl)
+  type_with (token.Word word.Vector) p ts h = one_token limits m d (token.Word word.Vector) p ts _ (VectorType IntType) k (wrapped_type VectorOf p nowhere nowhere _ (int_type nowhere) refl)
   type_with _ p ts h = absurd h
 
   expr_with : (x : Token) (p : Place) (ts : List Spot) → ExprToken x → GoodOf limits (ExprRule 0 d) m (take 1 (record { token = x; at = p } ∷ ts))
@@ -88,6 +89,7 @@ expr_deep limits {d = d} (call f p q args a e) = deep_is limits d _ _ e (λ l. l
 expr_deep limits {d = d} (paren p q of r e) = deep_is limits d _ _ e (λ l. l.0 (omega arith))
 expr_deep limits {d = d} (field p x of r e) = deep_begin limits d (suc d) of _ e (expr_deep limits r)
 expr_deep limits {d = d} (method p q r f of args t a e) = deep_begin limits d (suc d) of _ e (expr_deep limits t)
+expr_deep limits {d = d} (index p q of at t i e) = deep_begin limits d (suc d) of _ e (expr_deep limits t)
 expr_deep limits {d = d} (negation p of h r e) = deep_is limits d _ _ e (λ l. l.0 (omega arith))
 expr_deep limits {d = d} (minus p of h r e) = deep_is limits d _ _ e (λ l. l.0 (omega arith))
 expr_deep limits {d = d} (binary op p left right h a b e) = deep_begin limits d (suc d) left _ e (expr_deep limits a)

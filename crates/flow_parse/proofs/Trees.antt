@@ -16,7 +16,7 @@ use Rattle.flow_tree.specs.declared.expr.Expr.{Expr}
 use Rattle.flow_tree.specs.View.{type_of, expr_of}
 use Rattle.flow_tree.specs.Tree.{TypeTree, ExprTree}
 use Rattle.flow_tree.specs.GrammarToken.{Node, Marked, begin, spots_of}
-use Rattle.flow_tree.specs.Grammar.{sign_at, name_at, op_sign, TypeRule, int_type, bool_type, string_type, void_type, error_type, named_type, wrapped_type, ExprRule, number, text, truth, falsehood, void, variable, call, paren, field, method, negation, minus, binary}
+use Rattle.flow_tree.specs.Grammar.{sign_at, name_at, op_sign, TypeRule, int_type, bool_type, string_type, void_type, error_type, named_type, wrapped_type, ExprRule, number, text, truth, falsehood, void, variable, call, paren, field, method, index, negation, minus, binary}
 use Rattle.flow_tree.specs.GrammarAnswer.{IsRead, ReaderAnswer}
 use Rattle.flow_tree.proofs.GrammarLists.{length_spots}
 use Rattle.flow_parse.specs.Reading.{Any, Reads, Answer}
@@ -45,6 +45,7 @@ expr_some {k} {d} (method p q s f of args r a e) = omega (
   length-append (begin (Node d) of)
       (sign_at sign.Dot p ∷ name_at f ∷ sign_at sign.OpenRound q ∷ (args ++ sign_at sign.CloseRound s ∷ [])),
 )
+expr_some {k} {d} (index p q of at r i e) = omega (arith, ap length e, length-append (begin (Node d) of) (sign_at sign.OpenSquare p ∷ (at ++ sign_at sign.CloseSquare q ∷ [])))
 expr_some (negation p of le r e) = omega (arith, ap length e)
 expr_some (minus p of le r e) = omega (arith, ap length e)
 expr_some {k} {d} (binary op p left right le r s e) = omega (arith, ap length e, length-append (begin (Node d) left) (sign_at (op_sign op) p ∷ right))

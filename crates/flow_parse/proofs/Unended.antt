@@ -1,5 +1,5 @@
 -- How a statement that holds no other is read, and the init of a `for`.
-use Rattle.std.proofs.Common.{◌≡◌, ℕ, suc, ◌+◌, ◌≤◌, ◌<◌, drop, Bool, false, List, [], ◌∷◌, ◌++◌, length, refl, sym, ap, ◌∙◌, subst, arith, append_assoc, inl, inr}
+use Rattle.std.proofs.Common.{◌≡◌, ℕ, suc, ◌+◌, ◌≤◌, ◌<◌, drop, false, List, [], ◌∷◌, ◌++◌, length, refl, sym, ap, ◌∙◌, subst, arith, append_assoc, inl, inr}
 use Rattle.std.proofs.lemmas.List.{append-nil}
 use Rattle.std.specs.declared.option.Option.{Option}
 use Rattle.std.specs.declared.option.Option.TheVariants.{None, Some}
@@ -11,6 +11,7 @@ use Rattle.flow_tree.specs.declared.token.Token.{Token}
 use Rattle.flow_tree.specs.declared.token.Spot.{Spot}
 use Rattle.flow_tree.specs.declared.token.Tokens.{Tokens}
 use Rattle.flow_tree.specs.declared.ty.Ident.{Ident}
+use Rattle.flow_tree.specs.declared.decl.RoutineKind.{RoutineKind}
 use Rattle.flow_tree.specs.Tree.{NamedType}
 use Rattle.flow_tree.specs.Body.{IntoTree, Body, End, DeclareStmt, WaitStmt}
 use Rattle.flow_tree.specs.GrammarToken.{Marked, spots_of}
@@ -35,11 +36,11 @@ use Rattle.flow_parse.proofs.Shapes.{closed}
 starts_is : {w : List Marked} (a b : List Marked) (p : Place) → w ≡ a ++ b → StartsAt a p → StartsAt w p
 starts_is a b p e h = subst (λ z. StartsAt z p) (sym e) (starts_append a b p h)
 
-init_of : {actor : Bool} {d : ℕ} {c c' : Counts} {w left right : List Marked} {i : IntoTree} {p : Place} {body : Body} → IntoRule actor d c c' left i → DeclaredRule d p i right body
-    → w ≡ left ++ right → StartsAt w p → InitRule actor d c c' w p End body
-init_of {actor} {d} {c} {c'} {w} {left} {right} {i} {p} r no_value e s =
+init_of : {home : RoutineKind} {d : ℕ} {c c' : Counts} {w left right : List Marked} {i : IntoTree} {p : Place} {body : Body} → IntoRule home d c c' left i → DeclaredRule d p i right body
+    → w ≡ left ++ right → StartsAt w p → InitRule home d c c' w p End body
+init_of {home} {d} {c} {c'} {w} {left} {right} {i} {p} r no_value e s =
     let f : w ≡ left = e ∙ append-nil left in
-    declare p (subst (λ z. IntoRule actor d c c' z i) (sym f) r) s
+    declare p (subst (λ z. IntoRule home d c c' z i) (sym f) r) s
 init_of {left = left} {right = right} {p = p} r (value q of x f) e s = declare_value p q left of r x (glue left e f) s
 
 assign_of : {d : ℕ} {w path right : List Marked} {p : Place} {xs : List Ident} {body : Body} → PathRule path xs → ChangeRule d p xs right body → w ≡ path ++ right → StartsAt w p
@@ -50,11 +51,11 @@ assign_of {path} {p} r (takes q of x f) e s = minus p q path of r x (glue path e
 assign_of {path} {p} r (goes_up q) e s = up p q path r e s
 assign_of {path} {p} r (goes_down q) e s = down p q path r e s
 
-named_into : (actor : Bool) (d : ℕ) (c : Counts) (x y : Ident) → IntoRule actor d c c (node_name d x ∷ name_at y ∷ []) (record { state = false; ty = NamedType x.name; name = y })
-named_into actor d c x y = declared y [] (node_name d x ∷ []) no_state (named_type x) refl
+named_into : (home : RoutineKind) (d : ℕ) (c : Counts) (x y : Ident) → IntoRule home d c c (node_name d x ∷ name_at y ∷ []) (record { state = false; ty = NamedType x.name; name = y })
+named_into home d c x y = declared y [] (node_name d x ∷ []) no_state (named_type x) refl
 
-unended_plain : {actor : Bool} {d : ℕ} {c c' : Counts} {w of : List Marked} {body : Body} (q : Place) → UnendedRule actor d c of c' body → w ≡ of ++ sign_at sign.Semicolon q ∷ []
-    → (at : Place) × PlainRule actor d c c' w at End body false
+unended_plain : {home : RoutineKind} {d : ℕ} {c c' : Counts} {w of : List Marked} {body : Body} (q : Place) → UnendedRule home d c of c' body → w ≡ of ++ sign_at sign.Semicolon q ∷ []
+    → (at : Place) × PlainRule home d c c' w at End body false
 unended_plain {of} q (declaring at left right i (declares v) e s) g = (at, init_stmt at q of (init_of i v e s) g)
 unended_plain {of} q (declaring at left right i (waits p xs o f) e s) g = (at, wait_stmt at q of (into_wait p left xs i o (glue left e f)) g (starts_is of _ at g s))
 unended_plain {of} q (changing {x} left right r (changes v) e) g = (x.at, init_stmt x.at q of (change x.at (assign_of r v e (subst (λ z. StartsAt z x.at) (sym e) refl))) g)
@@ -66,20 +67,20 @@ unended_plain {of} q (changing {x} left right r (calls p args a f) e) g =
     (x.at, call_stmt x.at p a.0 q (name_at x ∷ left) a.1 r a.2 e2 (subst (λ z. StartsAt z x.at) (sym e2) refl))
 unended_plain {of} q (waiting at o s) g = (at, wait_stmt at q of (plain_wait o) g (starts_is _ _ at g s))
 
-pub simple_plain : (actor : Bool) (d : ℕ) (c : Counts) (w : List Marked) (o : Out) → Simple actor d c w o → Plain actor d c w o
-simple_plain actor d c w o r =
+pub simple_plain : (home : RoutineKind) (d : ℕ) (c : Counts) (w : List Marked) (o : Out) → Simple home d c w o → Plain home d c w o
+simple_plain home d c w o r =
     let x = unended_plain r.0 r.2.0 r.3 in
-    (x.0, subst (λ b. PlainRule actor d c o.counts w x.0 End o.body b) (sym r.2.1) x.1)
+    (x.0, subst (λ b. PlainRule home d c o.counts w x.0 End o.body b) (sym r.2.1) x.1)
 
 -- what follows each part of a sequence, and that there is some
 pub given_link : (d : ℕ) (p : Place) (i : IntoTree) → Link (Tok (token.Sign sign.Assign)) Any (λ q. Given d p i) (λ x. Before (token.Sign sign.Semicolon) x.1)
 given_link d p i = free (λ q. some_given d p i)
 
-pub declared_link : (actor : Bool) (d : ℕ) (c : Counts) → Link (Placed (IntoPart actor d c)) Any (λ y. DeclaredRule d y.0 y.1.0) (λ x. Before (token.Sign sign.Semicolon) x.1)
-declared_link actor d c = free (λ y. some_declared d y.0 y.1.0)
+pub declared_link : (home : RoutineKind) (d : ℕ) (c : Counts) → Link (Placed (IntoPart home d c)) Any (λ y. DeclaredRule d y.0 y.1.0) (λ x. Before (token.Sign sign.Semicolon) x.1)
+declared_link home d c = free (λ y. some_declared d y.0 y.1.0)
 
-pub valued_link : (actor : Bool) (d : ℕ) (c : Counts) → Link (Placed (IntoPart actor d c)) Any (λ y. ValuedRule d y.0 y.1.0) (λ x. Before (token.Sign sign.Semicolon) x.1)
-valued_link actor d c = free (λ y. some_valued d y.0 y.1.0)
+pub valued_link : (home : RoutineKind) (d : ℕ) (c : Counts) → Link (Placed (IntoPart home d c)) Any (λ y. ValuedRule d y.0 y.1.0) (λ x. Before (token.Sign sign.Semicolon) x.1)
+valued_link home d c = free (λ y. some_valued d y.0 y.1.0)
 
 pub named_declared_link : (d : ℕ) (x : Ident) → Link Named Any (λ y. DeclaredRule d x.at (of_name x y)) (λ v. Before (token.Sign sign.Semicolon) v.1)
 named_declared_link d x = free (λ y. some_declared d x.at (of_name x y))
@@ -93,11 +94,11 @@ path_changed_link d x = record { follows = λ a b v z r f. changed_no_dot a v z 
 pub path_change_link : (d : ℕ) (x : Ident) → Link (MoreNames x) (NotBefore (token.Sign sign.Dot)) (λ xs. ChangeRule d x.at xs) (λ v. ExprEnds v.1)
 path_change_link d x = record { follows = λ a b v z r f. changed_no_dot a v z (changes r); more = λ xs. some_change d x.at xs }
 
-pub semicolon_link : (actor : Bool) (d : ℕ) (c : Counts) → Link (Unended actor d c) (Before (token.Sign sign.Semicolon)) (λ o. Tok (token.Sign sign.Semicolon)) Any
-semicolon_link actor d c = record { follows = λ a b v z r f. before_is a (sign_at sign.Semicolon b) v [] z r; more = λ o. some_opening [] (token.Sign sign.Semicolon) }
+pub semicolon_link : (home : RoutineKind) (d : ℕ) (c : Counts) → Link (Unended home d c) (Before (token.Sign sign.Semicolon)) (λ o. Tok (token.Sign sign.Semicolon)) Any
+semicolon_link home d c = record { follows = λ a b v z r f. before_is a (sign_at sign.Semicolon b) v [] z r; more = λ o. some_opening [] (token.Sign sign.Semicolon) }
 
-pub into_wait_link : (actor : Bool) (d : ℕ) (c : Counts) → Link (IntoPart actor d c) Any (λ y. Then (Tok (token.Sign sign.Assign)) (λ q. OperandPart d)) Any
-into_wait_link actor d c = free (λ y. some_then (Tok (token.Sign sign.Assign)) (λ q. OperandPart d) (some_opening [] (token.Sign sign.Assign)) (λ q. some_operand d))
+pub into_wait_link : (home : RoutineKind) (d : ℕ) (c : Counts) → Link (IntoPart home d c) Any (λ y. Then (Tok (token.Sign sign.Assign)) (λ q. OperandPart d)) Any
+into_wait_link home d c = free (λ y. some_then (Tok (token.Sign sign.Assign)) (λ q. OperandPart d) (some_opening [] (token.Sign sign.Assign)) (λ q. some_operand d))
 
 pub assign_wait_link : (d : ℕ) → Link (Tok (token.Sign sign.Assign)) Any (λ q. OperandPart d) Any
 assign_wait_link d = free (λ q. some_operand d)
@@ -150,34 +151,34 @@ module _ (d : ℕ) (c : Counts) (x : Ident) (m : Marked) (ms : m.spot ≡ (name_
             (b.tree, b.rule, out_is a (q.tree.1, c) q.is e ∙ ap (λ y. closed y c) b.is, b.follows);
       }
 
-module _ (limits : Limits) (t : Tokens) (at : ℕ) (actor : Bool) (d : ℕ) (c : Counts) where
+module _ (limits : Limits) (t : Tokens) (at : ℕ) (home : RoutineKind) (d : ℕ) (c : Counts) where
   -- the init of a `for`
   pub init_left : at ≤ length t.spots.items → ((m : List ℕ) → token_at t.spots.items at ≡ Some (token.Name m) → ⊥)
-      → Leaves limits (Init actor d c) (Before (token.Sign sign.Semicolon)) (Then (Placed (IntoPart actor d c)) (λ y. DeclaredRule d y.0 y.1.0)) (λ x. Before (token.Sign sign.Semicolon) x.1)
+      → Leaves limits (Init home d c) (Before (token.Sign sign.Semicolon)) (Then (Placed (IntoPart home d c)) (λ y. DeclaredRule d y.0 y.1.0)) (λ x. Before (token.Sign sign.Semicolon) x.1)
       (λ x. closed x.1 x.0.1.1) t.spots.items at at
   init_left h n = narrow limits t.spots.items refl (record {
     back = λ w z b r f l. let q = init_into z (token_at t.spots.items at) n r.1 l
         in record { tree = q.tree; rule = q.rule; is = out_is b (q.tree.1, q.tree.0.1.1) q.is r.2; follows = before_same (token.Sign sign.Semicolon) b q.tree.1 z f };
     forth = λ u x r. (x.0.0, init_of r.front.1 r.back r.is (starts_is r.first r.rest x.0.0 r.is r.front.0), refl);
-  }) (nothing limits t.spots.items (Init actor d c) _ at h)
+  }) (nothing limits t.spots.items (Init home d c) _ at h)
 
   pub unended_left : at ≤ length t.spots.items → (AsFirst WaitToken (token_at t.spots.items at) → ⊥) → ((m : List ℕ) → token_at t.spots.items at ≡ Some (token.Name m) → ⊥)
-      → Leaves limits (Unended actor d c) (Before (token.Sign sign.Semicolon)) (Then (Placed (IntoPart actor d c)) (λ y. ValuedRule d y.0 y.1.0)) (λ x. Before (token.Sign sign.Semicolon) x.1)
+      → Leaves limits (Unended home d c) (Before (token.Sign sign.Semicolon)) (Then (Placed (IntoPart home d c)) (λ y. ValuedRule d y.0 y.1.0)) (λ x. Before (token.Sign sign.Semicolon) x.1)
       (λ x. closed x.1 x.0.1.1) t.spots.items at at
   unended_left h v n = narrow limits t.spots.items refl (record {
     back = λ w z b r f l. let q = unended_into z (token_at t.spots.items at) v n r.0 l
         in record { tree = q.tree; rule = q.rule; is = out_is b (q.tree.1, q.tree.0.1.1) q.is r.1; follows = before_same (token.Sign sign.Semicolon) b q.tree.1 z f };
     forth = λ u x r. (declaring x.0.0 r.first r.rest r.front.1 r.back r.is (starts_is r.first r.rest x.0.0 r.is r.front.0), refl);
-  }) (nothing limits t.spots.items (Unended actor d c) _ at h)
+  }) (nothing limits t.spots.items (Unended home d c) _ at h)
 
   pub unended_wait_left : at ≤ length t.spots.items → AsFirst WaitToken (token_at t.spots.items at)
-      → Leaves limits (Unended actor d c) (Before (token.Sign sign.Semicolon)) (Placed (OperandPart d)) Any (λ x. closed (WaitStmt x.0 (record { into = None; next = x.1.0; operand = x.1.1 }) End) c)
+      → Leaves limits (Unended home d c) (Before (token.Sign sign.Semicolon)) (Placed (OperandPart d)) Any (λ x. closed (WaitStmt x.0 (record { into = None; next = x.1.0; operand = x.1.1 }) End) c)
       t.spots.items at at
   unended_wait_left h v = narrow limits t.spots.items refl (record {
     back = λ w z b r f l. let q = unended_wait z (token_at t.spots.items at) v r.0 l
         in record { tree = q.tree; rule = q.rule; is = out_is b (WaitStmt q.tree.0 (record { into = None; next = q.tree.1.0; operand = q.tree.1.1 }) End, c) q.is r.1; follows = tt };
     forth = λ u x r. (waiting x.0 r.1 r.0, refl);
-  }) (nothing limits t.spots.items (Unended actor d c) _ at h)
+  }) (nothing limits t.spots.items (Unended home d c) _ at h)
 
   -- behind a first name
   module _ (x : Ident) (r : Reads limits Named Any t.spots.items at x (at + 1)) where
@@ -188,16 +189,16 @@ module _ (limits : Limits) (t : Tokens) (at : ℕ) (actor : Bool) (d : ℕ) (c :
     some_here = omega (arith, r.within)
 
     pub init_named : (n : List ℕ) → d ≤ 64 → token_at t.spots.items (at + 1) ≡ Some (token.Name n)
-        → Leaves limits (Init actor d c) (Before (token.Sign sign.Semicolon)) (Then Named (λ y. DeclaredRule d x.at (of_name x y))) (λ v. Before (token.Sign sign.Semicolon) v.1)
+        → Leaves limits (Init home d c) (Before (token.Sign sign.Semicolon)) (Then Named (λ y. DeclaredRule d x.at (of_name x y))) (λ v. Before (token.Sign sign.Semicolon) v.1)
         (λ v. closed v.1 c) t.spots.items at (at + 1)
     init_named n k e = behind_first limits (node_name d x) (Some (token.Name n))
-        (λ v b s. (x.at, init_of (named_into actor d c x b.0) s.back (ap (λ z. node_name d x ∷ z) (behind s.is s.front refl)) refl, refl))
+        (λ v b s. (x.at, init_of (named_into home d c x b.0) s.back (ap (λ z. node_name d x ∷ z) (behind s.is s.front refl)) refl, refl))
         (λ w z a s f l. split_name d c x (node_name d x) refl (Some (token.Name n)) (Then Named (λ y. DeclaredRule d x.at (of_name x y))) (λ v. Before (token.Sign sign.Semicolon) v.1) (λ v. v.1)
         (AfterInit d) (λ w z b u f l. named_declared_back z n u f l) w z a (init_name z x.name s.1 l) s.2 f)
         t.spots.items at some_here ((λ i. k), tt) spot_here e
 
     pub init_change : ((m : List ℕ) → token_at t.spots.items (at + 1) ≡ Some (token.Name m) → ⊥)
-        → Leaves limits (Init actor d c) (Before (token.Sign sign.Semicolon)) (Then (MoreNames x) (λ xs. ChangeRule d x.at xs)) (λ v. ExprEnds v.1) (λ v. closed v.1 c) t.spots.items at (at + 1)
+        → Leaves limits (Init home d c) (Before (token.Sign sign.Semicolon)) (Then (MoreNames x) (λ xs. ChangeRule d x.at xs)) (λ v. ExprEnds v.1) (λ v. closed v.1 c) t.spots.items at (at + 1)
     init_change n = behind_first limits (name_at x) (token_at t.spots.items (at + 1))
         (λ v b s. (x.at, change x.at (assign_of s.front s.back (ap (λ z. name_at x ∷ z) s.is) refl), refl))
         (λ w z a s f l. split_name d c x (name_at x) refl (token_at t.spots.items (at + 1)) (Then (MoreNames x) (λ xs. ChangeRule d x.at xs)) (λ v. ExprEnds v.1) (λ v. v.1) (AfterInit d)
@@ -205,39 +206,39 @@ module _ (limits : Limits) (t : Tokens) (at : ℕ) (actor : Bool) (d : ℕ) (c :
         t.spots.items at some_here tt spot_here refl
 
     pub unended_named : (n : List ℕ) → d ≤ 64 → token_at t.spots.items (at + 1) ≡ Some (token.Name n)
-        → Leaves limits (Unended actor d c) (Before (token.Sign sign.Semicolon)) (Then Named (λ y. ValuedRule d x.at (of_name x y))) (λ v. Before (token.Sign sign.Semicolon) v.1)
+        → Leaves limits (Unended home d c) (Before (token.Sign sign.Semicolon)) (Then Named (λ y. ValuedRule d x.at (of_name x y))) (λ v. Before (token.Sign sign.Semicolon) v.1)
         (λ v. closed v.1 c) t.spots.items at (at + 1)
     unended_named n k e = behind_first limits (node_name d x) (Some (token.Name n))
-        (λ v b s. (declaring x.at (node_name d x ∷ name_at b.0 ∷ []) s.rest (named_into actor d c x b.0) s.back (ap (λ z. node_name d x ∷ z) (behind s.is s.front refl)) refl, refl))
+        (λ v b s. (declaring x.at (node_name d x ∷ name_at b.0 ∷ []) s.rest (named_into home d c x b.0) s.back (ap (λ z. node_name d x ∷ z) (behind s.is s.front refl)) refl, refl))
         (λ w z a s f l. split_name d c x (node_name d x) refl (Some (token.Name n)) (Then Named (λ y. ValuedRule d x.at (of_name x y))) (λ v. Before (token.Sign sign.Semicolon) v.1) (λ v. v.1)
         (AfterName d) (λ w z b u f l. named_value_back z n u f l) w z a (unended_name z x.name s.0 l) s.1 f)
         t.spots.items at some_here ((λ i. k), tt) spot_here e
 
     pub unended_change : ((m : List ℕ) → token_at t.spots.items (at + 1) ≡ Some (token.Name m) → ⊥)
-        → Leaves limits (Unended actor d c) (Before (token.Sign sign.Semicolon)) (Then (MoreNames x) (λ xs. ChangedRule d x.at xs)) (λ v. ExprEnds v.1) (λ v. closed v.1 c) t.spots.items at (at + 1)
+        → Leaves limits (Unended home d c) (Before (token.Sign sign.Semicolon)) (Then (MoreNames x) (λ xs. ChangedRule d x.at xs)) (λ v. ExprEnds v.1) (λ v. closed v.1 c) t.spots.items at (at + 1)
     unended_change n = behind_first limits (name_at x) (token_at t.spots.items (at + 1))
         (λ v b s. (changing s.first s.rest s.front s.back (ap (λ z. name_at x ∷ z) s.is), refl))
         (λ w z a s f l. split_name d c x (name_at x) refl (token_at t.spots.items (at + 1)) (Then (MoreNames x) (λ xs. ChangedRule d x.at xs)) (λ v. ExprEnds v.1) (λ v. v.1) (AfterName d)
         (λ w z b u f l. changed_back z (token_at t.spots.items (at + 1)) n u f l) w z a (unended_name z x.name s.0 l) s.1 f)
         t.spots.items at some_here tt spot_here refl
 
-module _ (limits : Limits) (t : Tokens) (at : ℕ) (actor : Bool) (d : ℕ) (c : Counts) (h : at ≤ length t.spots.items) where
-  pub simple_left : Leaves limits (Simple actor d c) Any (Then (Unended actor d c) (λ o. Tok (token.Sign sign.Semicolon))) Any (λ x. x.0) t.spots.items at at
+module _ (limits : Limits) (t : Tokens) (at : ℕ) (home : RoutineKind) (d : ℕ) (c : Counts) (h : at ≤ length t.spots.items) where
+  pub simple_left : Leaves limits (Simple home d c) Any (Then (Unended home d c) (λ o. Tok (token.Sign sign.Semicolon))) Any (λ x. x.0) t.spots.items at at
   simple_left = narrow limits t.spots.items refl (record { back = λ w z b r f l. simple_back z r; forth = λ u x r. (x.1, r.first, r.front, glue _ r.is r.back) })
-      (nothing limits t.spots.items (Simple actor d c) Any at h)
+      (nothing limits t.spots.items (Simple home d c) Any at h)
 
   pub plain_waiting : AsFirst WaitToken (token_at t.spots.items at)
-      → Leaves limits (WaitingPart actor d c) Any (OperandPart d) Any (λ x. (record { into = None; next = x.0; operand = x.1 }, c)) t.spots.items at at
+      → Leaves limits (WaitingPart home d c) Any (OperandPart d) Any (λ x. (record { into = None; next = x.0; operand = x.1 }, c)) t.spots.items at at
   plain_waiting v = narrow limits t.spots.items refl (record { back = λ w z b r f l. plain_wait_back z (token_at t.spots.items at) v r l; forth = λ u x r. plain_wait r })
-      (nothing limits t.spots.items (WaitingPart actor d c) Any at h)
+      (nothing limits t.spots.items (WaitingPart home d c) Any at h)
 
   pub into_waiting : (AsFirst WaitToken (token_at t.spots.items at) → ⊥)
-      → Leaves limits (WaitingPart actor d c) Any (Then (IntoPart actor d c) (λ y. Then (Tok (token.Sign sign.Assign)) (λ q. OperandPart d))) Any
+      → Leaves limits (WaitingPart home d c) Any (Then (IntoPart home d c) (λ y. Then (Tok (token.Sign sign.Assign)) (λ q. OperandPart d))) Any
       (λ x. (record { into = Some x.0.0; next = x.1.1.0; operand = x.1.1.1 }, x.0.1)) t.spots.items at at
   into_waiting v = narrow limits t.spots.items refl (record {
     back = λ w z b r f l. into_wait_back z (token_at t.spots.items at) v r l;
     forth = λ u x r. into_wait x.1.0 r.first r.back.rest r.front r.back.back (glue _ r.is (behind r.back.is r.back.front refl));
-  }) (nothing limits t.spots.items (WaitingPart actor d c) Any at h)
+  }) (nothing limits t.spots.items (WaitingPart home d c) Any at h)
 
 module _ (limits : Limits) (t : Tokens) (at d : ℕ) (h : at ≤ length t.spots.items) where
   pub assignment_left : Leaves limits (Assignment d) ExprEnds (Then Named (λ x. Then (MoreNames x) (λ xs. ChangeRule d x.at xs))) (λ v. ExprEnds v.1.1) (λ x. x.1.1) t.spots.items at at

@@ -10,6 +10,7 @@ use Rattle.flow_tree.specs.declared.token.Word.TheVariants as word
 use Rattle.flow_tree.specs.declared.token.Sign.{Sign}
 use Rattle.flow_tree.specs.declared.token.Sign.TheVariants as sign
 use Rattle.flow_tree.specs.declared.ty.Ident.{Ident}
+use Rattle.flow_tree.specs.declared.decl.RoutineKind.{RoutineKind}
 use Rattle.flow_tree.specs.Tree.{TypeTree, NamedType}
 use Rattle.flow_tree.specs.Body.{IntoTree, WaitTree, Body, End, WaitStmt}
 use Rattle.flow_tree.specs.GrammarToken.{Marked}
@@ -51,7 +52,7 @@ record NamedInto (d : ℕ) (c c' : Counts) (w : List Marked) (i : IntoTree) : Ty
   tree : i ≡ of_name ty name
   counts : c' ≡ c
 
-into_named : {actor : Bool} {d : ℕ} {c c' : Counts} {w : List Marked} {i : IntoTree} (z : List Marked) (m : List ℕ) → IntoRule actor d c c' w i → Looks (Some (token.Name m)) (w ++ z)
+into_named : {home : RoutineKind} {d : ℕ} {c c' : Counts} {w : List Marked} {i : IntoTree} (z : List Marked) (m : List ℕ) → IntoRule home d c c' w i → Looks (Some (token.Name m)) (w ++ z)
     → NamedInto d c c' w i
 into_named z m (declared x kept of no_state t e) l =
     let k = type_named (name_at x ∷ z) m t (subst (Looks (Some (token.Name m))) (ap (λ v. v ++ z) e ∙ append_assoc of (name_at x ∷ []) z) l) in
@@ -185,18 +186,18 @@ change_init_back {b = b} z o n (inr k) f l = record { tree = k.tree; rule = k.ru
 wait_clash : (o : Option Token) (m : List ℕ) → o ≡ Some (token.Name m) → AsFirst WaitToken o → ⊥
 wait_clash o m e h = subst (AsFirst WaitToken) e h
 
-pub unended_wait : {actor : Bool} {d : ℕ} {c c' : Counts} {w : List Marked} {b : Body} (z : List Marked) (o : Option Token) → AsFirst WaitToken o → UnendedRule actor d c w c' b → Looks o (w ++ z)
+pub unended_wait : {home : RoutineKind} {d : ℕ} {c c' : Counts} {w : List Marked} {b : Body} (z : List Marked) (o : Option Token) → AsFirst WaitToken o → UnendedRule home d c w c' b → Looks o (w ++ z)
     → Formed {A = Body × Counts} (Placed (OperandPart d)) (λ x. (WaitStmt x.0 (record { into = None; next = x.1.0; operand = x.1.1 }) End, c)) w (b, c')
 unended_wait {w = w} z o h (declaring at left right i v e s) l = absurd (wait_no_into o h (starts_looks IntoToken w z o (starts_is IntoToken left right e (into_starts i)) l))
 unended_wait z o h (changing {x = x} left right r ch e) l = absurd (wait_clash o x.name (looks_is o (name_at x) (left ++ right) z e l) h)
 unended_wait z o h (waiting {next = n} {e = t} at r s) l = record { tree = (at, (n, t)); rule = (s, r); is = refl }
 
-pub unended_into : {actor : Bool} {d : ℕ} {c c' : Counts} {w : List Marked} {b : Body} (z : List Marked) (o : Option Token) → (AsFirst WaitToken o → ⊥) → ((m : List ℕ) → o ≡ Some (token.Name m) → ⊥)
-    → UnendedRule actor d c w c' b → Looks o (w ++ z)
-    → Formed {A = Body × Counts} (Then (Placed (IntoPart actor d c)) (λ x. ValuedRule d x.0 x.1.0)) (λ x. (x.1, x.0.1.1)) w (b, c')
-unended_into {actor = actor} {d = d} {c = c} {c' = c'} {b = b} z o h n (declaring {i = i} at left right r v e s) l = record {
+pub unended_into : {home : RoutineKind} {d : ℕ} {c c' : Counts} {w : List Marked} {b : Body} (z : List Marked) (o : Option Token) → (AsFirst WaitToken o → ⊥) → ((m : List ℕ) → o ≡ Some (token.Name m) → ⊥)
+    → UnendedRule home d c w c' b → Looks o (w ++ z)
+    → Formed {A = Body × Counts} (Then (Placed (IntoPart home d c)) (λ x. ValuedRule d x.0 x.1.0)) (λ x. (x.1, x.0.1.1)) w (b, c')
+unended_into {home = home} {d = d} {c = c} {c' = c'} {b = b} z o h n (declaring {i = i} at left right r v e s) l = record {
   tree = ((at, (i, c')), b);
-  rule = front (Placed (IntoPart actor d c)) (at, (i, c')) b left right e (starts_front IntoToken at left right e (into_starts r) s, r) v;
+  rule = front (Placed (IntoPart home d c)) (at, (i, c')) b left right e (starts_front IntoToken at left right e (into_starts r) s, r) v;
   is = refl;
 }
 unended_into z o h n (changing {x = x} left right r ch e) l = absurd (n x.name (looks_is o (name_at x) (left ++ right) z e l))
@@ -204,7 +205,7 @@ unended_into z o h n (waiting at r s) l = absurd (no_wait z o h r l)
 
 module _ (V : Place → IntoTree → List Marked → Body → Type 0) (Q : Ident → List Marked → Body → Type 0) where
   -- a type that is a name, a name, and what follows
-  named_declaring : {actor : Bool} {d : ℕ} {c c' : Counts} {w left right : List Marked} {i : IntoTree} {at : Place} {b : Body} (z : List Marked) (m : List ℕ) → IntoRule actor d c c' left i
+  named_declaring : {home : RoutineKind} {d : ℕ} {c c' : Counts} {w left right : List Marked} {i : IntoTree} {at : Place} {b : Body} (z : List Marked) (m : List ℕ) → IntoRule home d c c' left i
       → V at i right b → w ≡ left ++ right → StartsAt w at → Looks (Some (token.Name m)) (w ++ z)
       → Formed {A = Body × Counts} (Then (AnyName d) (λ x v e. Formed (Then Named (λ y. V x.at (of_name x y))) (λ u. u.1) v e ⊎ Q x v e)) (λ x. (x.1, c)) w (b, c')
   named_declaring {d = d} {w = w} {left = left} {right = right} {i = i} {at = at} {b = b} z m r v e s l =
@@ -219,7 +220,7 @@ module _ (V : Place → IntoTree → List Marked → Body → Type 0) (Q : Ident
         is = ap (λ n. (b, n)) k.counts;
       }
 
-pub unended_name : {actor : Bool} {d : ℕ} {c c' : Counts} {w : List Marked} {b : Body} (z : List Marked) (m : List ℕ) → UnendedRule actor d c w c' b → Looks (Some (token.Name m)) (w ++ z)
+pub unended_name : {home : RoutineKind} {d : ℕ} {c c' : Counts} {w : List Marked} {b : Body} (z : List Marked) (m : List ℕ) → UnendedRule home d c w c' b → Looks (Some (token.Name m)) (w ++ z)
     → Formed {A = Body × Counts} (Then (AnyName d) (AfterName d)) (λ x. (x.1, c)) w (b, c')
 unended_name {d = d} z m (declaring at left right r v e s) l = named_declaring (ValuedRule d) (λ x v e. Formed (Then (MoreNames x) (λ xs. ChangedRule d x.at xs)) (λ u. u.1) v e) z m r v e s l
 unended_name {d = d} {b = b} z m (changing {x = x} {xs = xs} left right r ch e) l = record {
@@ -230,17 +231,17 @@ unended_name {d = d} {b = b} z m (changing {x = x} {xs = xs} left right r ch e) 
 unended_name {w = w} z m (waiting at r s) l = absurd (wait_clash (Some (token.Name m)) m refl (starts_looks WaitToken w z (Some (token.Name m)) (operand_starts r) l))
 
 -- the same for the init of a `for`
-pub init_into : {actor : Bool} {d : ℕ} {c c' : Counts} {w : List Marked} {at : Place} {b : Body} (z : List Marked) (o : Option Token) → ((m : List ℕ) → o ≡ Some (token.Name m) → ⊥)
-    → InitRule actor d c c' w at End b → Looks o (w ++ z)
-    → Formed {A = Body × Counts} (Then (Placed (IntoPart actor d c)) (λ x. DeclaredRule d x.0 x.1.0)) (λ x. (x.1, x.0.1.1)) w (b, c')
-init_into {actor = actor} {d = d} {c = c} {c' = c'} {w = w} {b = b} z o n (declare {i = i} at r s) l = record {
+pub init_into : {home : RoutineKind} {d : ℕ} {c c' : Counts} {w : List Marked} {at : Place} {b : Body} (z : List Marked) (o : Option Token) → ((m : List ℕ) → o ≡ Some (token.Name m) → ⊥)
+    → InitRule home d c c' w at End b → Looks o (w ++ z)
+    → Formed {A = Body × Counts} (Then (Placed (IntoPart home d c)) (λ x. DeclaredRule d x.0 x.1.0)) (λ x. (x.1, x.0.1.1)) w (b, c')
+init_into {home = home} {d = d} {c = c} {c' = c'} {w = w} {b = b} z o n (declare {i = i} at r s) l = record {
   tree = ((at, (i, c')), b);
-  rule = front (Placed (IntoPart actor d c)) (at, (i, c')) b w [] (sym (append-nil w)) (s, r) no_value;
+  rule = front (Placed (IntoPart home d c)) (at, (i, c')) b w [] (sym (append-nil w)) (s, r) no_value;
   is = refl;
 }
-init_into {actor = actor} {d = d} {c = c} {c' = c'} {b = b} z o n (declare_value {i = i} at p left of r x e s) l = record {
+init_into {home = home} {d = d} {c = c} {c' = c'} {b = b} z o n (declare_value {i = i} at p left of r x e s) l = record {
   tree = ((at, (i, c')), b);
-  rule = front (Placed (IntoPart actor d c)) (at, (i, c')) b left (sign_at sign.Assign p ∷ of) e (starts_front IntoToken at left (sign_at sign.Assign p ∷ of) e (into_starts r) s, r)
+  rule = front (Placed (IntoPart home d c)) (at, (i, c')) b left (sign_at sign.Assign p ∷ of) e (starts_front IntoToken at left (sign_at sign.Assign p ∷ of) e (into_starts r) s, r)
       (value p of x refl);
   is = refl;
 }
@@ -248,7 +249,7 @@ init_into z o n (change at r) l =
     let k = assign_changes r in
     absurd (n k.name.name (looks_is o (name_at k.name) (k.left ++ k.right) z k.is l))
 
-pub init_name : {actor : Bool} {d : ℕ} {c c' : Counts} {w : List Marked} {at : Place} {b : Body} (z : List Marked) (m : List ℕ) → InitRule actor d c c' w at End b
+pub init_name : {home : RoutineKind} {d : ℕ} {c c' : Counts} {w : List Marked} {at : Place} {b : Body} (z : List Marked) (m : List ℕ) → InitRule home d c c' w at End b
     → Looks (Some (token.Name m)) (w ++ z)
     → Formed {A = Body × Counts} (Then (AnyName d) (AfterInit d)) (λ x. (x.1, c)) w (b, c')
 init_name {d = d} {w = w} z m (declare at r s) l = named_declaring (DeclaredRule d) (λ x v e. Formed (Then (MoreNames x) (λ xs. ChangeRule d x.at xs)) (λ u. u.1) v e) z m r no_value
@@ -265,20 +266,20 @@ init_name {d = d} {b = b} z m (change at r) l =
     }
 
 -- a statement that begins with no word of its own
-pub init_unended : {actor : Bool} {d : ℕ} {c c' : Counts} {w : List Marked} {at : Place} {b : Body} → InitRule actor d c c' w at End b → UnendedRule actor d c w c' b
+pub init_unended : {home : RoutineKind} {d : ℕ} {c c' : Counts} {w : List Marked} {at : Place} {b : Body} → InitRule home d c c' w at End b → UnendedRule home d c w c' b
 init_unended {w = w} (declare at r s) = declaring at w [] r (declares no_value) (sym (append-nil w)) s
 init_unended (declare_value at p left of r x e s) = declaring at left (sign_at sign.Assign p ∷ of) r (declares (value p of x refl)) e s
 init_unended (change at r) = let k = assign_changes r in changing k.left k.right k.path (changes k.rule) k.is
 
-waiting_unended : {actor : Bool} {d : ℕ} {c c' : Counts} {w all : List Marked} {x : WaitTree} {at : Place} (p : Place) → WaitingRule actor d c c' w x → all ≡ w ++ sign_at sign.Semicolon p ∷ []
-    → StartsAt all at → UnendedRule actor d c w c' (WaitStmt at x End)
+waiting_unended : {home : RoutineKind} {d : ℕ} {c c' : Counts} {w all : List Marked} {x : WaitTree} {at : Place} (p : Place) → WaitingRule home d c c' w x → all ≡ w ++ sign_at sign.Semicolon p ∷ []
+    → StartsAt all at → UnendedRule home d c w c' (WaitStmt at x End)
 waiting_unended {w = w} {at = at} p (plain_wait r) e s = waiting at r (starts_front WaitToken at w (sign_at sign.Semicolon p ∷ []) e (operand_starts r) s)
 waiting_unended {w = w} {at = at} p (into_wait q left right i o f) e s =
     declaring at left (sign_at sign.Assign q ∷ right) i (waits q right o refl) f
     (starts_front IntoToken at w (sign_at sign.Semicolon p ∷ []) e (starts_is IntoToken left (sign_at sign.Assign q ∷ right) f (into_starts i)) s)
 
-call_unended : {actor : Bool} {d : ℕ} {c : Counts} {w path right : List Marked} {xs : List Ident} {at : Place} {b : Body} → PathRule path xs → ChangedRule d at xs right b → w ≡ path ++ right
-    → StartsAt w at → UnendedRule actor d c w c b
+call_unended : {home : RoutineKind} {d : ℕ} {c : Counts} {w path right : List Marked} {xs : List Ident} {at : Place} {b : Body} → PathRule path xs → ChangedRule d at xs right b → w ≡ path ++ right
+    → StartsAt w at → UnendedRule home d c w c b
 call_unended {d = d} {w = w} {right = right} {xs = xs} {at = at} {b = b} r ch e s =
     let k = path_parts r in
     let f : w ≡ name_at k.name ∷ (k.left ++ right) = e ∙ ap (λ v. v ++ right) k.is in
@@ -287,8 +288,8 @@ call_unended {d = d} {w = w} {right = right} {xs = xs} {at = at} {b = b} r ch e 
 none_some : {A : Type 0} (k : A) → Some k ≡ None → ⊥
 none_some k e = cc
 
-pub plain_simple : {actor : Bool} {d : ℕ} {c c' : Counts} {w : List Marked} {p : Place} {b : Body} {h : Bool} → (r : PlainRule actor d c c' w p End b h) → opener r ≡ None
-    → Simple actor d c w (record { body = b; counts = c'; ends_if = h })
+pub plain_simple : {home : RoutineKind} {d : ℕ} {c c' : Counts} {w : List Marked} {p : Place} {b : Body} {h : Bool} → (r : PlainRule home d c c' w p End b h) → opener r ≡ None
+    → Simple home d c w (record { body = b; counts = c'; ends_if = h })
 plain_simple (if_stmt at p q test body e b f) n = absurd (none_some word.If n)
 plain_simple (if_else_stmt at p q r test body other e b o f) n = absurd (none_some word.If n)
 plain_simple (while_stmt at p q test body e b f) n = absurd (none_some word.While n)
@@ -322,6 +323,6 @@ plain_simple (call_stmt at p q r path args x a f s) n =
     call_starts rest at p path (more_names x q more r f) e s = subst (λ v. StartsAt (v ++ rest) at) (sym f)
         (subst (λ v. StartsAt v at) (e ∙ ap (λ v. (v ++ rest) ++ sign_at sign.Semicolon p ∷ []) f) s)
 
-pub simple_back : {actor : Bool} {d : ℕ} {c : Counts} {w : List Marked} {o : Out} (z : List Marked) → Simple actor d c w o
-    → Back (Simple actor d c) Any (Then (Unended actor d c) (λ o. Tok (token.Sign sign.Semicolon))) Any (λ x. x.0) w z o
-simple_back {actor = actor} {d = d} {c = c} {o = o} z r = record { tree = (o, r.0); rule = front (Unended actor d c) o r.0 r.1 (sign_at sign.Semicolon r.0 ∷ []) r.3 r.2 refl; is = refl; follows = tt }
+pub simple_back : {home : RoutineKind} {d : ℕ} {c : Counts} {w : List Marked} {o : Out} (z : List Marked) → Simple home d c w o
+    → Back (Simple home d c) Any (Then (Unended home d c) (λ o. Tok (token.Sign sign.Semicolon))) Any (λ x. x.0) w z o
+simple_back {home = home} {d = d} {c = c} {o = o} z r = record { tree = (o, r.0); rule = front (Unended home d c) o r.0 r.1 (sign_at sign.Semicolon r.0 ∷ []) r.3 r.2 refl; is = refl; follows = tt }

@@ -215,6 +215,10 @@ pub at_struct : (o : Option Token) → (o ≡ Some (token.Word word.Struct)) ⊎
 at_struct (Some (token.Word word.Struct)) = inl refl
 at_struct _ = inr (λ e. cc)
 
+pub at_no_result : (o : Option Token) → (o ≡ Some (token.Word word.NoResult)) ⊎ (o ≡ Some (token.Word word.NoResult) → ⊥)
+at_no_result (Some (token.Word word.NoResult)) = inl refl
+at_no_result _ = inr (λ e. cc)
+
 pub at_actor : (o : Option Token) → (o ≡ Some (token.Word word.Actor)) ⊎ (o ≡ Some (token.Word word.Actor) → ⊥)
 at_actor (Some (token.Word word.Actor)) = inl refl
 at_actor _ = inr (λ e. cc)

@@ -1,5 +1,5 @@
 -- Tokens have one meaning as a part of a statement.
-use Rattle.std.proofs.Common.{◌≡◌, ℕ, zero, suc, Bool, true, false, List, [], ◌∷◌, ◌++◌, length, refl, sym, ap, ◌∙◌, subst, arith, ◌⊎◌, inl, inr}
+use Rattle.std.proofs.Common.{◌≡◌, ℕ, zero, suc, true, false, List, [], ◌∷◌, ◌++◌, length, refl, sym, ap, ◌∙◌, subst, arith, ◌⊎◌, inl, inr}
 use Rattle.std.specs.declared.option.Option.{Option}
 use Rattle.std.specs.declared.option.Option.TheVariants.{None, Some}
 use Rattle.flow_base.specs.declared.place.Place.{Place}
@@ -10,6 +10,7 @@ use Rattle.flow_tree.specs.declared.token.Sign.{Sign}
 use Rattle.flow_tree.specs.declared.token.Sign.TheVariants as sign
 use Rattle.flow_tree.specs.declared.token.Spot.{Spot}
 use Rattle.flow_tree.specs.declared.ty.Ident.{Ident}
+use Rattle.flow_tree.specs.declared.decl.RoutineKind.{RoutineKind}
 use Rattle.flow_tree.specs.Tree.{ExprTree, ExprTrees, NoExprs, MoreExprs}
 use Rattle.flow_tree.specs.Body.{IntoTree, PlusChange, MinusChange, UpChange, DownChange, Body, End, DeclareStmt, AssignStmt, ModifyStmt, CallStmt, WaitStmt}
 use Rattle.flow_tree.specs.GrammarToken.{Marked, spots_of}
@@ -36,19 +37,19 @@ uniq_test d k = narrowed (Test d) Any (Then (Tok (token.Sign sign.OpenRound)) (�
     (λ p. seq (ExprRule 0 d) ExprEnds (λ e. Tok (token.Sign sign.CloseRound)) Any k (λ a b v z r f. ends_is a (sign_at sign.CloseRound b) v [] z r tt) (uniq_expr d k)
     (λ e. uniq_opening [] (token.Sign sign.CloseRound) k)))
 
-pub uniq_state : (actor : Bool) (c : Counts) (k : ℕ) → Uniq k (StatePart actor c) (NotBefore (token.Word word.State))
-uniq_state actor c k = uniq_by (StatePart actor c) (NotBefore (token.Word word.State)) k (λ o. elim (at_state o) [
-  | inl e ↦ subst (λ x. UniqAt x k (StatePart actor c) (NotBefore (token.Word word.State))) (sym e)
-      (at_narrow (StatePart actor c) (NotBefore (token.Word word.State)) (Opening (state_parts actor c) (token.Word word.State)) Any (λ p. (true, one_state actor c)) k (Some (token.Word word.State))
-      (λ w z b r f l. state_back z r f l) (uniq_opening (state_parts actor c) (token.Word word.State) k))
-  | inr n ↦ at_nil (StatePart actor c) (NotBefore (token.Word word.State)) k o (false, c) (λ w z b r f l. no_state_back z o n r l)
+pub uniq_state : (home : RoutineKind) (c : Counts) (k : ℕ) → Uniq k (StatePart home c) (NotBefore (token.Word word.State))
+uniq_state home c k = uniq_by (StatePart home c) (NotBefore (token.Word word.State)) k (λ o. elim (at_state o) [
+  | inl e ↦ subst (λ x. UniqAt x k (StatePart home c) (NotBefore (token.Word word.State))) (sym e)
+      (at_narrow (StatePart home c) (NotBefore (token.Word word.State)) (Opening (state_parts home c) (token.Word word.State)) Any (λ p. (true, one_state home c)) k (Some (token.Word word.State))
+      (λ w z b r f l. state_back z r f l) (uniq_opening (state_parts home c) (token.Word word.State) k))
+  | inr n ↦ at_nil (StatePart home c) (NotBefore (token.Word word.State)) k o (false, c) (λ w z b r f l. no_state_back z o n r l)
 ])
 
-pub uniq_into : (actor : Bool) (d : ℕ) (c : Counts) (k : ℕ) → Uniq k (IntoPart actor d c) Any
-uniq_into actor d c k = narrowed (IntoPart actor d c) Any (Then (StatePart actor c) (λ s. Then (TypeRule d) (λ y. Named))) Any (λ x. (record { state = x.0.0; ty = x.1.0; name = x.1.1 }, x.0.1)) k
+pub uniq_into : (home : RoutineKind) (d : ℕ) (c : Counts) (k : ℕ) → Uniq k (IntoPart home d c) Any
+uniq_into home d c k = narrowed (IntoPart home d c) Any (Then (StatePart home c) (λ s. Then (TypeRule d) (λ y. Named))) Any (λ x. (record { state = x.0.0; ty = x.1.0; name = x.1.1 }, x.0.1)) k
     (λ w z b r f. into_back z r)
-    (seq (StatePart actor c) (NotBefore (token.Word word.State)) (λ s. Then (TypeRule d) (λ y. Named)) Any k
-    (λ a b v z r f. starts_not a TypeToken (token.Word word.State) (λ h. h) v z (type_name_starts r)) (uniq_state actor c k)
+    (seq (StatePart home c) (NotBefore (token.Word word.State)) (λ s. Then (TypeRule d) (λ y. Named)) Any k
+    (λ a b v z r f. starts_not a TypeToken (token.Word word.State) (λ h. h) v z (type_name_starts r)) (uniq_state home c k)
     (λ s. seq (TypeRule d) Any (λ y. Named) Any k (λ a b v z r f. tt) (uniq_type k d) (λ y. uniq_name k)))
 
 pub which_wait : (o : Option Token) → AsFirst WaitToken o → (o ≡ Some (token.Word word.Wait)) ⊎ (o ≡ Some (token.Word word.WaitNext))
@@ -67,12 +68,12 @@ uniq_operand d k = uniq_by (OperandPart d) Any k (λ o. elim (at_wait o) [
   | inr n ↦ at_none (OperandPart d) Any k o (λ w z b r f l. no_wait z o n r l)
 ])
 
-pub uniq_waiting : (actor : Bool) (d : ℕ) (c : Counts) (k : ℕ) → Uniq k (WaitingPart actor d c) Any
-uniq_waiting actor d c k = uniq_by (WaitingPart actor d c) Any k (λ o. elim (at_wait o) [
-  | inl h ↦ at_narrow (WaitingPart actor d c) Any (OperandPart d) Any (λ y. (record { into = None; next = y.0; operand = y.1 }, c)) k o (λ w z b r f l. plain_wait_back z o h r l) (uniq_operand d k)
-  | inr n ↦ at_narrow (WaitingPart actor d c) Any (Then (IntoPart actor d c) (λ i. Then (Tok (token.Sign sign.Assign)) (λ p. OperandPart d))) Any
+pub uniq_waiting : (home : RoutineKind) (d : ℕ) (c : Counts) (k : ℕ) → Uniq k (WaitingPart home d c) Any
+uniq_waiting home d c k = uniq_by (WaitingPart home d c) Any k (λ o. elim (at_wait o) [
+  | inl h ↦ at_narrow (WaitingPart home d c) Any (OperandPart d) Any (λ y. (record { into = None; next = y.0; operand = y.1 }, c)) k o (λ w z b r f l. plain_wait_back z o h r l) (uniq_operand d k)
+  | inr n ↦ at_narrow (WaitingPart home d c) Any (Then (IntoPart home d c) (λ i. Then (Tok (token.Sign sign.Assign)) (λ p. OperandPart d))) Any
       (λ y. (record { into = Some y.0.0; next = y.1.1.0; operand = y.1.1.1 }, y.0.1)) k o (λ w z b r f l. into_wait_back z o n r l)
-      (seq (IntoPart actor d c) Any (λ i. Then (Tok (token.Sign sign.Assign)) (λ p. OperandPart d)) Any k (λ a b v z r f. tt) (uniq_into actor d c k)
+      (seq (IntoPart home d c) Any (λ i. Then (Tok (token.Sign sign.Assign)) (λ p. OperandPart d)) Any k (λ a b v z r f. tt) (uniq_into home d c k)
       (λ i. same_tok [] (token.Sign sign.Assign) (λ p. OperandPart d) Any k (λ p. uniq_operand d k)))
 ])
 
@@ -245,10 +246,10 @@ uniq_any_name d k w z v u a b lt r g s h e =
 pub out_is : (o : Out) (x : Body × Counts) → ◌≡◌ {A = Body × Counts} (o.body, o.counts) x → o.ends_if ≡ false → o ≡ closed x.0 x.1
 out_is o x e f = ap (λ y. record { body = y.0; counts = y.1; ends_if = o.ends_if }) e ∙ ap (λ h. record { body = x.0; counts = x.1; ends_if = h }) f
 
-module _ (actor : Bool) (d : ℕ) (c : Counts) (k : ℕ) where
-  pub uniq_unended : Uniq k (Unended actor d c) (Before (token.Sign sign.Semicolon))
-  uniq_unended = uniq_by (Unended actor d c) (Before (token.Sign sign.Semicolon)) k (λ o. elim (at_wait o) [
-    | inl h ↦ at_narrow (Unended actor d c) (Before (token.Sign sign.Semicolon)) (Placed (OperandPart d)) Any (λ x. closed (WaitStmt x.0 (record { into = None; next = x.1.0; operand = x.1.1 }) End) c)
+module _ (home : RoutineKind) (d : ℕ) (c : Counts) (k : ℕ) where
+  pub uniq_unended : Uniq k (Unended home d c) (Before (token.Sign sign.Semicolon))
+  uniq_unended = uniq_by (Unended home d c) (Before (token.Sign sign.Semicolon)) k (λ o. elim (at_wait o) [
+    | inl h ↦ at_narrow (Unended home d c) (Before (token.Sign sign.Semicolon)) (Placed (OperandPart d)) Any (λ x. closed (WaitStmt x.0 (record { into = None; next = x.1.0; operand = x.1.1 }) End) c)
         k o
         (λ w z b r f l. let q = unended_wait z o h r.0 l in record {
           tree = q.tree;
@@ -257,8 +258,8 @@ module _ (actor : Bool) (d : ℕ) (c : Counts) (k : ℕ) where
           follows = tt;
         }) (uniq_placed (OperandPart d) Any k (uniq_operand d k))
     | inr n ↦ elim (at_name o) [
-      | inl p ↦ subst (λ y. UniqAt y k (Unended actor d c) (Before (token.Sign sign.Semicolon))) (sym p.1)
-          (at_narrow (Unended actor d c) (Before (token.Sign sign.Semicolon)) (Then (AnyName d) (AfterName d)) (λ x. Before (token.Sign sign.Semicolon) x.1) (λ x. closed x.1 c) k
+      | inl p ↦ subst (λ y. UniqAt y k (Unended home d c) (Before (token.Sign sign.Semicolon))) (sym p.1)
+          (at_narrow (Unended home d c) (Before (token.Sign sign.Semicolon)) (Then (AnyName d) (AfterName d)) (λ x. Before (token.Sign sign.Semicolon) x.1) (λ x. closed x.1 c) k
           (Some (token.Name p.0))
           (λ w z b r f l. let q = unended_name z p.0 r.0 l in record {
             tree = q.tree;
@@ -267,7 +268,7 @@ module _ (actor : Bool) (d : ℕ) (c : Counts) (k : ℕ) where
             follows = before_same (token.Sign sign.Semicolon) b q.tree.1 z f;
           })
           (seq (AnyName d) Any (AfterName d) (λ x. Before (token.Sign sign.Semicolon) x.1) k (λ a b v z r f. tt) (uniq_any_name d k) (λ x. uniq_after_name d x k)))
-      | inr m ↦ at_narrow (Unended actor d c) (Before (token.Sign sign.Semicolon)) (Then (Placed (IntoPart actor d c)) (λ x. ValuedRule d x.0 x.1.0)) (λ x. Before (token.Sign sign.Semicolon) x.1)
+      | inr m ↦ at_narrow (Unended home d c) (Before (token.Sign sign.Semicolon)) (Then (Placed (IntoPart home d c)) (λ x. ValuedRule d x.0 x.1.0)) (λ x. Before (token.Sign sign.Semicolon) x.1)
           (λ x. closed x.1 x.0.1.1) k o
           (λ w z b r f l. let q = unended_into z o n m r.0 l in record {
             tree = q.tree;
@@ -275,15 +276,15 @@ module _ (actor : Bool) (d : ℕ) (c : Counts) (k : ℕ) where
             is = out_is b (q.tree.1, q.tree.0.1.1) q.is r.1;
             follows = before_same (token.Sign sign.Semicolon) b q.tree.1 z f;
           })
-          (seq (Placed (IntoPart actor d c)) Any (λ x. ValuedRule d x.0 x.1.0) (λ x. Before (token.Sign sign.Semicolon) x.1) k (λ a b v z r f. tt)
-          (uniq_placed (IntoPart actor d c) Any k (uniq_into actor d c k)) (λ x. uniq_valued d x.0 x.1.0 k))
+          (seq (Placed (IntoPart home d c)) Any (λ x. ValuedRule d x.0 x.1.0) (λ x. Before (token.Sign sign.Semicolon) x.1) k (λ a b v z r f. tt)
+          (uniq_placed (IntoPart home d c) Any k (uniq_into home d c k)) (λ x. uniq_valued d x.0 x.1.0 k))
     ]
   ])
 
-  pub uniq_init : Uniq k (Init actor d c) (Before (token.Sign sign.Semicolon))
-  uniq_init = uniq_by (Init actor d c) (Before (token.Sign sign.Semicolon)) k (λ o. elim (at_name o) [
-    | inl p ↦ subst (λ y. UniqAt y k (Init actor d c) (Before (token.Sign sign.Semicolon))) (sym p.1)
-        (at_narrow (Init actor d c) (Before (token.Sign sign.Semicolon)) (Then (AnyName d) (AfterInit d)) (λ x. Before (token.Sign sign.Semicolon) x.1) (λ x. closed x.1 c) k (Some (token.Name p.0))
+  pub uniq_init : Uniq k (Init home d c) (Before (token.Sign sign.Semicolon))
+  uniq_init = uniq_by (Init home d c) (Before (token.Sign sign.Semicolon)) k (λ o. elim (at_name o) [
+    | inl p ↦ subst (λ y. UniqAt y k (Init home d c) (Before (token.Sign sign.Semicolon))) (sym p.1)
+        (at_narrow (Init home d c) (Before (token.Sign sign.Semicolon)) (Then (AnyName d) (AfterInit d)) (λ x. Before (token.Sign sign.Semicolon) x.1) (λ x. closed x.1 c) k (Some (token.Name p.0))
         (λ w z b r f l. let q = init_name z p.0 r.1 l in record {
           tree = q.tree;
           rule = q.rule;
@@ -291,7 +292,7 @@ module _ (actor : Bool) (d : ℕ) (c : Counts) (k : ℕ) where
           follows = before_same (token.Sign sign.Semicolon) b q.tree.1 z f;
         })
         (seq (AnyName d) Any (AfterInit d) (λ x. Before (token.Sign sign.Semicolon) x.1) k (λ a b v z r f. tt) (uniq_any_name d k) (λ x. uniq_after_init d x k)))
-    | inr m ↦ at_narrow (Init actor d c) (Before (token.Sign sign.Semicolon)) (Then (Placed (IntoPart actor d c)) (λ x. DeclaredRule d x.0 x.1.0)) (λ x. Before (token.Sign sign.Semicolon) x.1)
+    | inr m ↦ at_narrow (Init home d c) (Before (token.Sign sign.Semicolon)) (Then (Placed (IntoPart home d c)) (λ x. DeclaredRule d x.0 x.1.0)) (λ x. Before (token.Sign sign.Semicolon) x.1)
         (λ x. closed x.1 x.0.1.1) k o
         (λ w z b r f l. let q = init_into z o m r.1 l in record {
           tree = q.tree;
@@ -299,11 +300,11 @@ module _ (actor : Bool) (d : ℕ) (c : Counts) (k : ℕ) where
           is = out_is b (q.tree.1, q.tree.0.1.1) q.is r.2;
           follows = before_same (token.Sign sign.Semicolon) b q.tree.1 z f;
         })
-        (seq (Placed (IntoPart actor d c)) Any (λ x. DeclaredRule d x.0 x.1.0) (λ x. Before (token.Sign sign.Semicolon) x.1) k (λ a b v z r f. tt)
-        (uniq_placed (IntoPart actor d c) Any k (uniq_into actor d c k)) (λ x. uniq_declared d x.0 x.1.0 k))
+        (seq (Placed (IntoPart home d c)) Any (λ x. DeclaredRule d x.0 x.1.0) (λ x. Before (token.Sign sign.Semicolon) x.1) k (λ a b v z r f. tt)
+        (uniq_placed (IntoPart home d c) Any k (uniq_into home d c k)) (λ x. uniq_declared d x.0 x.1.0 k))
   ])
 
-  pub uniq_simple : Uniq k (Simple actor d c) Any
-  uniq_simple = narrowed (Simple actor d c) Any (Then (Unended actor d c) (λ o. Tok (token.Sign sign.Semicolon))) Any (λ x. x.0) k (λ w z b r f. simple_back z r)
-      (seq (Unended actor d c) (Before (token.Sign sign.Semicolon)) (λ o. Tok (token.Sign sign.Semicolon)) Any k (λ a b v z r f. before_is a (sign_at sign.Semicolon b) v [] z r) uniq_unended
+  pub uniq_simple : Uniq k (Simple home d c) Any
+  uniq_simple = narrowed (Simple home d c) Any (Then (Unended home d c) (λ o. Tok (token.Sign sign.Semicolon))) Any (λ x. x.0) k (λ w z b r f. simple_back z r)
+      (seq (Unended home d c) (Before (token.Sign sign.Semicolon)) (λ o. Tok (token.Sign sign.Semicolon)) Any k (λ a b v z r f. before_is a (sign_at sign.Semicolon b) v [] z r) uniq_unended
       (λ o. uniq_opening [] (token.Sign sign.Semicolon) k))

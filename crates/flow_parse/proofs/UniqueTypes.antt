@@ -7,9 +7,9 @@ use Rattle.flow_tree.specs.declared.token.Token.{Token}
 use Rattle.flow_tree.specs.declared.token.Token.TheVariants as token
 use Rattle.flow_tree.specs.declared.token.Word.TheVariants as word
 use Rattle.flow_tree.specs.declared.token.Sign.TheVariants as sign
-use Rattle.flow_tree.specs.Tree.{TypeTree, IntType, BoolType, StringType, VoidType, ErrorType, NamedType, FutureType, FutureStreamType, PromiseType, PromiseStreamType}
+use Rattle.flow_tree.specs.Tree.{TypeTree, IntType, BoolType, StringType, VoidType, ErrorType, NamedType, FutureType, FutureStreamType, PromiseType, PromiseStreamType, VectorType}
 use Rattle.flow_tree.specs.GrammarToken.{Node, Marked, opens}
-use Rattle.flow_tree.specs.Grammar.{sign_at, node_word, Wrapper, FutureOf, FutureStreamOf, PromiseOf, PromiseStreamOf, wrapper_word, TypeRule, int_type, bool_type, string_type, void_type, error_type, named_type, wrapped_type}
+use Rattle.flow_tree.specs.Grammar.{sign_at, node_word, Wrapper, FutureOf, FutureStreamOf, PromiseOf, PromiseStreamOf, VectorOf, wrapper_word, TypeRule, int_type, bool_type, string_type, void_type, error_type, named_type, wrapped_type}
 use Rattle.flow_parse.specs.Openers.{TypeToken}
 use Rattle.flow_parse.specs.Reading.{Opening, Tok, Then, Any}
 use Rattle.flow_parse.proofs.Looking.{Looks}
@@ -42,6 +42,7 @@ TypeForm (token.Word word.Future) d w t = Formed (Inner d FutureOf) (λ x. Futur
 TypeForm (token.Word word.FutureStream) d w t = Formed (Inner d FutureStreamOf) (λ x. FutureStreamType x.1.1.0) w t
 TypeForm (token.Word word.Promise) d w t = Formed (Inner d PromiseOf) (λ x. PromiseType x.1.1.0) w t
 TypeForm (token.Word word.PromiseStream) d w t = Formed (Inner d PromiseStreamOf) (λ x. PromiseStreamType x.1.1.0) w t
+TypeForm (token.Word word.Vector) d w t = Formed (Inner d VectorOf) (λ x. VectorType x.1.1.0) w t
 TypeForm _ d w t = ⊥
 
 inner : {d : ℕ} {u : List Marked} {t : TypeTree} (w : Wrapper) (p q r : Place) (of : List Marked) → TypeRule (suc d) of t
@@ -61,6 +62,7 @@ type_form (wrapped_type {t = t} FutureOf p q r of h e) = record { tree = (p, (q,
 type_form (wrapped_type {t = t} FutureStreamOf p q r of h e) = record { tree = (p, (q, (t, r))); rule = inner FutureStreamOf p q r of h e; is = refl }
 type_form (wrapped_type {t = t} PromiseOf p q r of h e) = record { tree = (p, (q, (t, r))); rule = inner PromiseOf p q r of h e; is = refl }
 type_form (wrapped_type {t = t} PromiseStreamOf p q r of h e) = record { tree = (p, (q, (t, r))); rule = inner PromiseStreamOf p q r of h e; is = refl }
+type_form (wrapped_type {t = t} VectorOf p q r of h e) = record { tree = (p, (q, (t, r))); rule = inner VectorOf p q r of h e; is = refl }
 
 type_looks : {d : ℕ} {w : List Marked} {t : TypeTree} (z : List Marked) (o : Option Token) → (r : TypeRule d w t) → Looks o (w ++ z) → o ≡ Some (first_token r)
 type_looks {d = d} z o (int_type p) l = looks_first o (node_word d word.Int p) z l
@@ -100,6 +102,7 @@ by_token d k later (token.Word word.Future) = inner_at d k FutureOf FutureType l
 by_token d k later (token.Word word.FutureStream) = inner_at d k FutureStreamOf FutureStreamType later (λ w u f. f)
 by_token d k later (token.Word word.Promise) = inner_at d k PromiseOf PromiseType later (λ w u f. f)
 by_token d k later (token.Word word.PromiseStream) = inner_at d k PromiseStreamOf PromiseStreamType later (λ w u f. f)
+by_token d k later (token.Word word.Vector) = inner_at d k VectorOf VectorType later (λ w u f. f)
 by_token d k later x = at_none (TypeRule d) Any (suc k) (Some x) (λ w z b r g l. type_back z x r l)
 
 by_next : (d k : ℕ) → Uniq k (TypeRule (suc d)) Any → (o : Option Token) → UniqAt o (suc k) (TypeRule d) Any

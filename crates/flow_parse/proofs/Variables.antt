@@ -1,5 +1,5 @@
 -- How declarations of variables, waits, paths, changes and calls are read.
-use Rattle.std.proofs.Common.{◌≡◌, ℕ, suc, ◌+◌, ◌≤◌, ◌<◌, Bool, true, false, List, [], ◌∷◌, ◌++◌, length, refl, sym, ap, ◌∙◌, subst, arith, append_assoc}
+use Rattle.std.proofs.Common.{◌≡◌, ℕ, suc, ◌+◌, ◌≤◌, ◌<◌, true, false, List, [], ◌∷◌, ◌++◌, length, refl, sym, ap, ◌∙◌, subst, arith, append_assoc}
 use Rattle.std.specs.declared.option.Option.{Option}
 use Rattle.std.specs.declared.option.Option.TheVariants.{None, Some}
 use Rattle.flow_tree.specs.declared.limits.Limits.{Limits}
@@ -11,6 +11,8 @@ use Rattle.flow_tree.specs.declared.token.Sign.TheVariants as sign
 use Rattle.flow_tree.specs.declared.token.Spot.{Spot}
 use Rattle.flow_tree.specs.declared.token.Tokens.{Tokens}
 use Rattle.flow_tree.specs.declared.ty.Ident.{Ident}
+use Rattle.flow_tree.specs.declared.decl.RoutineKind.{RoutineKind}
+use Rattle.flow_tree.specs.declared.decl.RoutineKind.TheVariants.{Actor, Function, OldFunction}
 use Rattle.flow_tree.specs.Tree.{ExprTrees, NoExprs, MoreExprs}
 use Rattle.flow_tree.specs.Body.{IntoTree, PlusChange, MinusChange, UpChange, DownChange, Body, End, DeclareStmt, AssignStmt, ModifyStmt, CallStmt}
 use Rattle.flow_tree.specs.GrammarToken.{Marked}
@@ -37,8 +39,8 @@ test_link d = free (λ p. some_then (ExprRule 0 d) (λ e. Tok (token.Sign sign.C
 pub expr_link : (d : ℕ) → Link (ExprRule 0 d) ExprEnds (λ e. Tok (token.Sign sign.CloseRound)) Any
 expr_link d = record { follows = λ a b v z r f. ends_is a (sign_at sign.CloseRound b) v [] z r tt; more = λ e. some_opening [] (token.Sign sign.CloseRound) }
 
-pub state_link : (actor : Bool) (d : ℕ) (c : Counts) → Link (StatePart actor c) (NotBefore (token.Word word.State)) (λ s. Then (TypeRule d) (λ y. Named)) Any
-state_link actor d c = record {
+pub state_link : (home : RoutineKind) (d : ℕ) (c : Counts) → Link (StatePart home c) (NotBefore (token.Word word.State)) (λ s. Then (TypeRule d) (λ y. Named)) Any
+state_link home d c = record {
   follows = λ a b v z r f. starts_not a TypeToken (token.Word word.State) (λ h. h) v z (type_name_starts r);
   more = λ s. some_then (TypeRule d) (λ y. Named) (some_type d) (λ y. some_named);
 }
@@ -76,33 +78,35 @@ module _ (limits : Limits) (t : Tokens) (at : ℕ) where
     forth = λ u x r. (x.0, x.1.1, r.back.first, r.back.front, behind r.is r.front (glue _ r.back.is r.back.back));
   }) (nothing limits t.spots.items (Test d) Any at h)
 
-  pub no_state_reads : (actor : Bool) (c : Counts) → at ≤ length t.spots.items → (token_at t.spots.items at ≡ Some (token.Word word.State) → ⊥)
-      → Reads limits (StatePart actor c) (NotBefore (token.Word word.State)) t.spots.items at (false, c) at
-  no_state_reads actor c h n = empty limits t.spots.items (StatePart actor c) _ at (false, c) (token_at t.spots.items at) h refl no_state
+  pub no_state_reads : (home : RoutineKind) (c : Counts) → at ≤ length t.spots.items → (token_at t.spots.items at ≡ Some (token.Word word.State) → ⊥)
+      → Reads limits (StatePart home c) (NotBefore (token.Word word.State)) t.spots.items at (false, c) at
+  no_state_reads home c h n = empty limits t.spots.items (StatePart home c) _ at (false, c) (token_at t.spots.items at) h refl no_state
       (λ w z b r f l. no_state_back z (token_at t.spots.items at) n r l)
 
-  pub state_turns : (actor : Bool) (c : Counts) → Turns (StatePart actor c) (NotBefore (token.Word word.State)) (Opening (state_parts actor c) (token.Word word.State)) Any
-      (λ p. (true, one_state actor c)) (Some (token.Word word.State))
-  state_turns actor c = record { back = λ w z b r f l. state_back z r f l; forth = λ w p e. subst (λ z. StateRule actor c (one_state actor c) z true) (sym e) (some_state p) }
+  pub state_turns : (home : RoutineKind) (c : Counts) → Turns (StatePart home c) (NotBefore (token.Word word.State)) (Opening (state_parts home c) (token.Word word.State)) Any
+      (λ p. (true, one_state home c)) (Some (token.Word word.State))
+  state_turns home c = record { back = λ w z b r f l. state_back z r f l; forth = λ w p e. subst (λ z. StateRule home c (one_state home c) z true) (sym e) (some_state p) }
 
-  pub free_state_reads : (c : Counts) → token_at t.spots.items at ≡ Some (token.Word word.State)
-      → Reads limits (StatePart false c) (NotBefore (token.Word word.State)) t.spots.items at (true, c) (at + 1)
-  free_state_reads c h = become limits t.spots.items h (state_turns false c) (tok_reads limits t at (token.Word word.State) h)
+  pub free_state_reads : (home : RoutineKind) (c : Counts) → (home ≡ Actor → ⊥) → token_at t.spots.items at ≡ Some (token.Word word.State)
+      → Reads limits (StatePart home c) (NotBefore (token.Word word.State)) t.spots.items at (true, c) (at + 1)
+  free_state_reads Actor c n h = absurd (n refl)
+  free_state_reads Function c n h = become limits t.spots.items h (state_turns Function c) (tok_reads limits t at (token.Word word.State) h)
+  free_state_reads OldFunction c n h = become limits t.spots.items h (state_turns OldFunction c) (tok_reads limits t at (token.Word word.State) h)
 
   pub state_reads : (c : Counts) → token_at t.spots.items at ≡ Some (token.Word word.State) → c.variables < limits.variables
-      → Reads limits (StatePart true c) (NotBefore (token.Word word.State)) t.spots.items at (true, record { statements = c.statements; variables = c.variables + 1 }) (at + 1)
+      → Reads limits (StatePart Actor c) (NotBefore (token.Word word.State)) t.spots.items at (true, record { statements = c.statements; variables = c.variables + 1 }) (at + 1)
   state_reads c h k =
       let e : suc c.variables ≡ c.variables + 1 = omega arith in
-      subst (λ v. Reads limits (StatePart true c) (NotBefore (token.Word word.State)) t.spots.items at (true, record { statements = c.statements; variables = v }) (at + 1)) e
-      (become limits t.spots.items h (state_turns true c) (opening_reads limits t at (state_parts true c) (token.Word word.State) h ((λ l. omega arith), tt)))
+      subst (λ v. Reads limits (StatePart Actor c) (NotBefore (token.Word word.State)) t.spots.items at (true, record { statements = c.statements; variables = v }) (at + 1)) e
+      (become limits t.spots.items h (state_turns Actor c) (opening_reads limits t at (state_parts Actor c) (token.Word word.State) h ((λ l. omega arith), tt)))
 
   -- [ "state" ] type name
-  pub into_left : (actor : Bool) (d : ℕ) (c : Counts) → at ≤ length t.spots.items
-      → Leaves limits (IntoPart actor d c) Any (Then (StatePart actor c) (λ s. Then (TypeRule d) (λ y. Named))) Any (λ x. (record { state = x.0.0; ty = x.1.0; name = x.1.1 }, x.0.1)) t.spots.items at
+  pub into_left : (home : RoutineKind) (d : ℕ) (c : Counts) → at ≤ length t.spots.items
+      → Leaves limits (IntoPart home d c) Any (Then (StatePart home c) (λ s. Then (TypeRule d) (λ y. Named))) Any (λ x. (record { state = x.0.0; ty = x.1.0; name = x.1.1 }, x.0.1)) t.spots.items at
       at
-  into_left actor d c h = narrow limits t.spots.items refl (record
+  into_left home d c h = narrow limits t.spots.items refl (record
       { back = λ w z b r f l. into_back z r; forth = λ u x r. declared x.1.1 r.first r.back.first r.front r.back.front (glue _ r.is (glue _ r.back.is r.back.back)) })
-      (nothing limits t.spots.items (IntoPart actor d c) Any at h)
+      (nothing limits t.spots.items (IntoPart home d c) Any at h)
 
   -- the wait itself
   pub wait_left : (d : ℕ) → at ≤ length t.spots.items → token_at t.spots.items at ≡ Some (token.Word word.Wait)

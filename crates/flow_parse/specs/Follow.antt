@@ -9,6 +9,7 @@ use Rattle.flow_exprs.specs.Kinds.{kind_of}
 -- no expression goes on with a token of this kind
 abbrev pub EndsExpr : Kind → Type 0
 EndsExpr kind.Close = Unit {0}
+EndsExpr kind.CloseSquare = Unit {0}
 EndsExpr kind.Comma = Unit {0}
 EndsExpr kind.Other = Unit {0}
 EndsExpr _ = ⊥

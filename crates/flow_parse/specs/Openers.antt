@@ -45,6 +45,7 @@ TypeWord word.Future = Unit {0}
 TypeWord word.FutureStream = Unit {0}
 TypeWord word.Promise = Unit {0}
 TypeWord word.PromiseStream = Unit {0}
+TypeWord word.Vector = Unit {0}
 TypeWord _ = ⊥
 
 abbrev pub TypeToken : Token → Type 0

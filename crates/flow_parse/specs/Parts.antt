@@ -7,13 +7,14 @@ use Rattle.flow_tree.specs.declared.token.Token.TheVariants as token
 use Rattle.flow_tree.specs.declared.token.Word.TheVariants as word
 use Rattle.flow_tree.specs.declared.token.Sign.TheVariants as sign
 use Rattle.flow_tree.specs.declared.ty.Ident.{Ident}
-use Rattle.flow_tree.specs.Tree.{TypeTree, ExprTree, ExprTrees}
+use Rattle.flow_tree.specs.declared.decl.RoutineKind.{RoutineKind}
+use Rattle.flow_tree.specs.Tree.{TypeTree, NothingType, ExprTree, ExprTrees}
 use Rattle.flow_tree.specs.Body.{IntoTree, WaitTree, PlusChange, MinusChange, UpChange, DownChange, Body, End, BlockStmt, IfStmt, IfElseStmt, WhileStmt, ForStmt, LoopStmt, BreakStmt, ContinueStmt, ReturnStmt, ThrowStmt, TryStmt, ChooseStmt, DeclareStmt, AssignStmt, ModifyStmt, CallStmt, WaitStmt, Branches, MoreBranches}
-use Rattle.flow_tree.specs.Decls.{ParamTree, RecordTree, RoutineTree, StructDecl, FunctionDecl, ActorDecl}
+use Rattle.flow_tree.specs.Decls.{ParamTree, RecordTree, RoutineTree}
 use Rattle.flow_tree.specs.GrammarToken.{Part, Marked, begin}
-use Rattle.flow_tree.specs.Grammar.{sign_at, word_at, name_at, node_name, ExprRule, ArgsRule, MoreArgsRule}
-use Rattle.flow_tree.specs.GrammarStmt.{Counts, StartsAt, begin_statement, StateRule, IntoRule, OperandRule, WaitingRule, PathRule, AssignRule, InitRule, InitPart, StepPart, MaybeExprRule, PlainRule, StmtRule, BodyRule, StmtsRule, WhensRule, WhenRule}
-use Rattle.flow_tree.specs.GrammarDecl.{FieldsRule, MoreParamsRule, ParamsRule, RoutineRule, DeclRule}
+use Rattle.flow_tree.specs.Grammar.{sign_at, word_at, name_at, node_name, in_angle, TypeRule, ExprRule, ArgsRule, MoreArgsRule}
+use Rattle.flow_tree.specs.GrammarStmt.{Counts, StartsAt, begin_statement, StateRule, IntoRule, OperandRule, WaitingRule, PathRule, AssignRule, InitRule, InitPart, StepPart, MaybeExprRule, ReturnedRule, PlainRule, StmtRule, BodyRule, StmtsRule, WhensRule, WhenRule}
+use Rattle.flow_tree.specs.GrammarDecl.{FieldsRule, MoreParamsRule, ParamsRule, RecordRule, RoutineRule, FunctionRule, ActorRule}
 use Rattle.flow_parse.specs.Follow.{NotBefore}
 
 -- a statement, or a body: its tree, the counts behind it, and whether it ends in an `if` that has no
@@ -53,6 +54,10 @@ MoreNames x w xs = PathRule (name_at x ∷ w) xs
 abbrev pub MaybeExpr : ℕ → List Marked → Option ExprTree → Type 0
 MaybeExpr d w e = (q : Place) × (of : List Marked) × MaybeExprRule d of e × (w ≡ of ++ sign_at sign.Semicolon q ∷ [])
 
+-- what a `return` gives, and its semicolon
+abbrev pub Returned : RoutineKind → ℕ → List Marked → Option ExprTree → Type 0
+Returned home d w e = (q : Place) × (of : List Marked) × ReturnedRule home d of e × (w ≡ of ++ sign_at sign.Semicolon q ∷ [])
+
 -- a name that is a type of this depth
 abbrev pub NodeName : ℕ → List Marked → Ident → Type 0
 NodeName d w x = w ≡ node_name d x ∷ []
@@ -65,17 +70,17 @@ Placed R w x = StartsAt w x.0 × R w x.1
 abbrev pub Begun : {A : Type 0} → Counts → ℕ → (List Marked → A → Type 0) → List Marked → A → Type 0
 Begun c d R w x = (xs : List Marked) × R xs x × (w ≡ begin_statement c d xs)
 
-abbrev pub StatePart : Bool → Counts → List Marked → Bool × Counts → Type 0
-StatePart actor c w x = StateRule actor c x.1 w x.0
+abbrev pub StatePart : RoutineKind → Counts → List Marked → Bool × Counts → Type 0
+StatePart home c w x = StateRule home c x.1 w x.0
 
-abbrev pub IntoPart : Bool → ℕ → Counts → List Marked → IntoTree × Counts → Type 0
-IntoPart actor d c w x = IntoRule actor d c x.1 w x.0
+abbrev pub IntoPart : RoutineKind → ℕ → Counts → List Marked → IntoTree × Counts → Type 0
+IntoPart home d c w x = IntoRule home d c x.1 w x.0
 
 abbrev pub OperandPart : ℕ → List Marked → Bool × ExprTree → Type 0
 OperandPart d w x = OperandRule d w x.0 x.1
 
-abbrev pub WaitingPart : Bool → ℕ → Counts → List Marked → WaitTree × Counts → Type 0
-WaitingPart actor d c w x = WaitingRule actor d c x.1 w x.0
+abbrev pub WaitingPart : RoutineKind → ℕ → Counts → List Marked → WaitTree × Counts → Type 0
+WaitingPart home d c w x = WaitingRule home d c x.1 w x.0
 
 -- a change of a variable, behind its path
 pub data ChangeRule (d : ℕ) (at : Place) (xs : List Ident) : List Marked → Body → Type 0 where
@@ -109,50 +114,50 @@ pub data ValuedRule (d : ℕ) (at : Place) (i : IntoTree) : List Marked → Body
       → ValuedRule d at i all (WaitStmt at (record { into = Some i; next = next; operand = e }) End)
 
 -- a declaration, a change, a wait or a call, without its semicolon
-pub data UnendedRule (actor : Bool) (d : ℕ) (c : Counts) : List Marked → Counts → Body → Type 0 where
+pub data UnendedRule (home : RoutineKind) (d : ℕ) (c : Counts) : List Marked → Counts → Body → Type 0 where
   declaring : {c' : Counts} {i : IntoTree} {body : Body} {all : List Marked} (at : Place) (left right : List Marked)
-      → IntoRule actor d c c' left i → ValuedRule d at i right body → all ≡ left ++ right → StartsAt all at
-      → UnendedRule actor d c all c' body
+      → IntoRule home d c c' left i → ValuedRule d at i right body → all ≡ left ++ right → StartsAt all at
+      → UnendedRule home d c all c' body
   changing : {x : Ident} {xs : List Ident} {body : Body} {all : List Marked} (left right : List Marked) → PathRule (name_at x ∷ left) xs
-      → ChangedRule d x.at xs right body → all ≡ name_at x ∷ (left ++ right) → UnendedRule actor d c all c body
+      → ChangedRule d x.at xs right body → all ≡ name_at x ∷ (left ++ right) → UnendedRule home d c all c body
   waiting : {next : Bool} {e : ExprTree} {all : List Marked} (at : Place) → OperandRule d all next e → StartsAt all at
-      → UnendedRule actor d c all c (WaitStmt at (record { into = None; next = next; operand = e }) End)
+      → UnendedRule home d c all c (WaitStmt at (record { into = None; next = next; operand = e }) End)
 
-abbrev pub Unended : Bool → ℕ → Counts → List Marked → Out → Type 0
-Unended actor d c w o = UnendedRule actor d c w o.counts o.body × (o.ends_if ≡ false)
+abbrev pub Unended : RoutineKind → ℕ → Counts → List Marked → Out → Type 0
+Unended home d c w o = UnendedRule home d c w o.counts o.body × (o.ends_if ≡ false)
 
-abbrev pub Simple : Bool → ℕ → Counts → List Marked → Out → Type 0
-Simple actor d c w o = (q : Place) × (of : List Marked) × Unended actor d c of o × (w ≡ of ++ sign_at sign.Semicolon q ∷ [])
+abbrev pub Simple : RoutineKind → ℕ → Counts → List Marked → Out → Type 0
+Simple home d c w o = (q : Place) × (of : List Marked) × Unended home d c of o × (w ≡ of ++ sign_at sign.Semicolon q ∷ [])
 
-abbrev pub Init : Bool → ℕ → Counts → List Marked → Out → Type 0
-Init actor d c w o = (at : Place) × InitRule actor d c o.counts w at End o.body × (o.ends_if ≡ false)
+abbrev pub Init : RoutineKind → ℕ → Counts → List Marked → Out → Type 0
+Init home d c w o = (at : Place) × InitRule home d c o.counts w at End o.body × (o.ends_if ≡ false)
 
 abbrev pub Assignment : ℕ → List Marked → Body → Type 0
 Assignment d w body = (at : Place) × AssignRule d w at End body
 
 -- the parts of a `for`, each with what closes it
-abbrev pub StartPart : Bool → ℕ → Counts → List Marked → Body × Counts → Type 0
-StartPart actor d c w x = (q : Place) × (of : List Marked) × InitPart actor d c x.1 of x.0
+abbrev pub StartPart : RoutineKind → ℕ → Counts → List Marked → Body × Counts → Type 0
+StartPart home d c w x = (q : Place) × (of : List Marked) × InitPart home d c x.1 of x.0
     × (w ≡ of ++ sign_at sign.Semicolon q ∷ [])
 
 abbrev pub NextPart : ℕ → Counts → List Marked → Body × Counts → Type 0
 NextPart d c w x = (q : Place) × (of : List Marked) × StepPart d c x.1 of x.0 × (w ≡ of ++ sign_at sign.CloseRound q ∷ [])
 
-abbrev pub Plain : Bool → ℕ → Counts → List Marked → Out → Type 0
-Plain actor d c w o = (at : Place) × PlainRule actor d c o.counts w at End o.body o.ends_if
+abbrev pub Plain : RoutineKind → ℕ → Counts → List Marked → Out → Type 0
+Plain home d c w o = (at : Place) × PlainRule home d c o.counts w at End o.body o.ends_if
 
-abbrev pub One : Bool → ℕ → Counts → List Marked → Out → Type 0
-One actor d c w o = StmtRule actor d c o.counts w End o.body o.ends_if
+abbrev pub One : RoutineKind → ℕ → Counts → List Marked → Out → Type 0
+One home d c w o = StmtRule home d c o.counts w End o.body o.ends_if
 
-abbrev pub BodyPart : Bool → ℕ → Counts → List Marked → Out → Type 0
-BodyPart actor d c w o = BodyRule actor d c o.counts w o.body o.ends_if
+abbrev pub BodyPart : RoutineKind → ℕ → Counts → List Marked → Out → Type 0
+BodyPart home d c w o = BodyRule home d c o.counts w o.body o.ends_if
 
 -- statements and the brace that closes them, and the brace that opens them
-abbrev pub Closing : Bool → ℕ → Counts → List Marked → BlockOut → Type 0
-Closing actor d c w o = (xs : List Marked) × StmtsRule actor d c o.counts xs o.body × (w ≡ xs ++ sign_at sign.CloseCurly o.close ∷ [])
+abbrev pub Closing : RoutineKind → ℕ → Counts → List Marked → BlockOut → Type 0
+Closing home d c w o = (xs : List Marked) × StmtsRule home d c o.counts xs o.body × (w ≡ xs ++ sign_at sign.CloseCurly o.close ∷ [])
 
-abbrev pub Block : Bool → ℕ → Counts → List Marked → BlockOut → Type 0
-Block actor d c w o = (p : Place) × (xs : List Marked) × StmtsRule actor d c o.counts xs o.body
+abbrev pub Block : RoutineKind → ℕ → Counts → List Marked → BlockOut → Type 0
+Block home d c w o = (p : Place) × (xs : List Marked) × StmtsRule home d c o.counts xs o.body
     × (w ≡ sign_at sign.OpenCurly p ∷ (xs ++ sign_at sign.CloseCurly o.close ∷ []))
 
 -- "catch" "(" "Error" "&" name ")"
@@ -167,18 +172,18 @@ pub record WhenOut : Type 0 where
   pub counts : Counts
 
 -- a branch, put before any others
-abbrev pub WhenPart : Bool → ℕ → ℕ → Counts → List Marked → WhenOut → Type 0
-WhenPart actor d n c w o = (bs : Branches) → WhenRule actor d n c o.counts w bs (MoreBranches o.at o.waiting o.body bs)
+abbrev pub WhenPart : RoutineKind → ℕ → ℕ → Counts → List Marked → WhenOut → Type 0
+WhenPart home d n c w o = (bs : Branches) → WhenRule home d n c o.counts w bs (MoreBranches o.at o.waiting o.body bs)
 
 -- branches and the brace that closes them
-abbrev pub WhensPart : Bool → ℕ → ℕ → Counts → List Marked → Branches × Counts → Type 0
-WhensPart actor d n c w x = (q : Place) × (of : List Marked) × WhensRule actor d n c x.1 of x.0
+abbrev pub WhensPart : RoutineKind → ℕ → ℕ → Counts → List Marked → Branches × Counts → Type 0
+WhensPart home d n c w x = (q : Place) × (of : List Marked) × WhensRule home d n c x.1 of x.0
     × (w ≡ of ++ sign_at sign.CloseCurly q ∷ [])
 
-abbrev pub AllWhens : Bool → ℕ → Counts → List Marked → Branches × Counts → Type 0
-AllWhens actor d c w x = (q : Place) × (first more : List Marked) × (c1 : Counts) × (bs : Branches)
-    × WhenRule actor d 1 c c1 first bs x.0
-    × WhensRule actor d 2 c1 x.1 more bs × (w ≡ first ++ (more ++ sign_at sign.CloseCurly q ∷ []))
+abbrev pub AllWhens : RoutineKind → ℕ → Counts → List Marked → Branches × Counts → Type 0
+AllWhens home d c w x = (q : Place) × (first more : List Marked) × (c1 : Counts) × (bs : Branches)
+    × WhenRule home d 1 c c1 first bs x.0
+    × WhensRule home d 2 c1 x.1 more bs × (w ≡ first ++ (more ++ sign_at sign.CloseCurly q ∷ []))
 
 abbrev pub FieldsPart : ℕ → List Marked → List ParamTree → Type 0
 FieldsPart n w fs = (q : Place) × (of : List Marked) × FieldsRule n of fs × (w ≡ of ++ sign_at sign.CloseCurly q ∷ [])
@@ -200,18 +205,24 @@ pub record RoutineOut : Type 0 where
   pub body : Body
   pub close : Place
 
-abbrev pub Routine : Bool → List Marked → RoutineOut → Type 0
-Routine actor w o = (at : Place) (t : TypeTree)
-    → RoutineRule actor at t w (record { at = at; returns = t; name = o.name; params = o.params; body = o.body; close = o.close })
+abbrev pub Routine : RoutineKind → List Marked → RoutineOut → Type 0
+Routine home w o = (at : Place) (t : TypeTree)
+    → RoutineRule home at t w (record { at = at; returns = t; name = o.name; params = o.params; body = o.body; close = o.close })
 
 abbrev pub Record : List Marked → RecordTree → Type 0
-Record w r = DeclRule w (StructDecl r)
+Record w r = RecordRule w r
 
-abbrev pub Function : List Marked → RoutineTree → Type 0
-Function w f = DeclRule w (FunctionDecl f)
+abbrev pub Function : RoutineKind → List Marked → RoutineTree → Type 0
+Function home w f = FunctionRule home w f
+
+-- what an actor gives: "Future" "<" type ">", or "void" for nothing
+pub data Gives : List Marked → TypeTree → Type 0 where
+  gives : {t : TypeTree} {all : List Marked} (p q r : Place) (of : List Marked) → TypeRule 2 of t
+      → all ≡ word_at word.Future p ∷ in_angle q of r [] → Gives all t
+  gives_nothing : (p : Place) → Gives (word_at word.NoResult p ∷ []) NothingType
 
 abbrev pub Actor : List Marked → RoutineTree → Type 0
-Actor w f = DeclRule w (ActorDecl f)
+Actor w f = ActorRule w f
 
 -- a first statement alone, put before others
 abbrev pub put_before : Body → Body → Body

@@ -1,6 +1,7 @@
 -- What the readers give, seen as plain data.
-use Rattle.std.specs.Prelude.{◌≡◌, ℕ, Bool, List}
+use Rattle.std.specs.Prelude.{◌≡◌, ℕ, List}
 use Rattle.flow_tree.specs.declared.stmt.Stmt.{Stmt}
+use Rattle.flow_tree.specs.declared.decl.RoutineKind.{RoutineKind}
 use Rattle.flow_tree.specs.Body.{IntoTree, WaitTree, Body, End, Branches}
 use Rattle.flow_tree.specs.StmtView.{into_of, waiting_of, stmt_of, body_of, branches_of, simple_of}
 use Rattle.flow_tree.specs.GrammarStmt.{Counts}
@@ -23,8 +24,8 @@ abbrev pub counts_of : code.Counts → Counts
 counts_of c = record { statements = c.statements; variables = c.variables }
 
 -- a part of a routine that stands there
-abbrev pub Within : {A : Type 0} → (Bool → ℕ → Counts → List Marked → A → Type 0) → Around → List Marked → A → Type 0
-Within P z = P z.actor z.depth (counts_of z.counts)
+abbrev pub Within : {A : Type 0} → (RoutineKind → ℕ → Counts → List Marked → A → Type 0) → Around → List Marked → A → Type 0
+Within P z = P z.routine z.depth (counts_of z.counts)
 
 abbrev pub into_out : ReadInto → IntoTree × Counts
 into_out r = (into_of r.into, counts_of r.counts)

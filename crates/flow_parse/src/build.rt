@@ -1,6 +1,6 @@
 // Statements from their parts.
 
-ghost use Rattle.std.specs.Prelude.{◌≡◌, map, Some};
+ghost use Rattle.std.specs.Prelude.{◌≡◌, map};
 ghost use Rattle.std.specs.Option.{option_map};
 ghost use Rattle.flow_tree.specs.View.{expr_of, exprs_of};
 ghost use Rattle.flow_tree.specs.StmtView.{into_of, waiting_of, change_of, stmt_of, body_of, branch_of, branches_of, simple_of};
@@ -111,14 +111,15 @@ pub fn continue_stmt(at: Place) -> Stmt
     }
 }
 
-/// A `return`.
-pub fn return_stmt(at: Place, value: Expr) -> Stmt
-    ensures is { (rest : Body) → stmt_of result rest ≡ ReturnStmt at (Some (expr_of value)) rest }
+/// A `return`, with a value or without one.
+pub fn return_stmt(at: Place, value: Option<Expr>) -> Stmt
+    ensures is { (rest : Body) → stmt_of result rest
+        ≡ ReturnStmt at (option_map expr_of value) rest }
     ensures stands { Stands result }
 {
     Stmt {
         at,
-        kind: StmtKind::Return(Some(value)),
+        kind: StmtKind::Return(value),
     }
 }
 

@@ -4,10 +4,11 @@ ghost use Rattle.std.specs.Prelude.{◌≡◌, ◌↔◌, ℕ, ◌+◌, ◌<◌,
 ghost use Rattle.flow_tree.specs.declared.token.Word.TheVariants as word;
 ghost use Rattle.flow_tree.specs.declared.token.Token.TheVariants as token;
 ghost use Rattle.flow_tree.specs.DeclView.{param_of, params_of, record_of, function_of, actor_of, decl_of};
+ghost use Rattle.flow_tree.specs.View.{result_of};
 ghost use Rattle.flow_tree.specs.GrammarDecl.{ParamRule, DeclRule};
-ghost use Rattle.flow_parse.specs.Reading.{token_at, Any, Answer};
+ghost use Rattle.flow_parse.specs.Reading.{token_at, Any, Answer, AnswerAlways};
 ghost use Rattle.flow_parse.specs.Openers.{AsFirst, DeclToken};
-ghost use Rattle.flow_parse.specs.Parts.{AllFields, Params, Routine, Record, Function, Actor};
+ghost use Rattle.flow_parse.specs.Parts.{AllFields, Params, Routine, Record, Function, Gives, Actor};
 ghost use Rattle.flow_parse.specs.Views.{routine_out};
 
 use crate::simple::{Around, Counts};
@@ -15,12 +16,12 @@ use crate::stmt::block;
 use crate::token::{begins_type, is_sign, is_word, name, refused, sign, ty, word};
 use flow_base::place::Place;
 use flow_exprs::token::place;
-use flow_tree::decl::{ActorDecl, Decl, FunctionDecl, Param, RecordDecl};
+use flow_tree::decl::{ActorDecl, Decl, FunctionDecl, Param, RecordDecl, RoutineKind};
 use flow_tree::fault::{Rule, SourceFault};
 use flow_tree::limits::Limits;
 use flow_tree::stmt::Stmt;
 use flow_tree::token::{Sign, Tokens, Word};
-use flow_tree::ty::Ident;
+use flow_tree::ty::{Ident, Ty};
 use std::alloc::Global;
 
 // A parameter or a field, the one behind so many in its declaration.
@@ -152,11 +153,11 @@ fn routine(
     alloc: Global,
     tokens: &Tokens,
     at: usize,
-    actor: bool,
+    home: RoutineKind,
     limits: Limits,
 ) -> Result<ReadRoutine, SourceFault>
     requires within { at ≤ length tokens.now.spots.items }
-    ensures reads { Answer limits (Routine actor) Any routine_out (λ r. r.to) tokens.now at result }
+    ensures reads { Answer limits (Routine home) Any routine_out (λ r. r.to) tokens.now at result }
     ensures moves { IfOk result (λ r. (at < r.to) × (r.to ≤ length tokens.now.spots.items)) }
 {
     let (name, at) = name(alloc, tokens, at)?;
@@ -167,7 +168,7 @@ fn routine(
         variables: count(&params),
     };
     let around = Around {
-        actor,
+        routine: home,
         depth: 2,
         counts,
         limits,
@@ -182,22 +183,23 @@ fn routine(
     })
 }
 
-/// The function that begins here, and the number of the token after it. It is refused at the first token
-/// with which none begins: with S5, or with the least of L4 to L7 that can't be kept.
+/// The function of this kind that begins here, and the number of the token after it. It is refused at the
+/// first token with which none begins: with S5, or with the least of L4 to L7 that can't be kept.
 pub fn function(
     alloc: Global,
     tokens: &Tokens,
     at: usize,
+    home: RoutineKind,
     limits: Limits,
 ) -> Result<(FunctionDecl, usize), SourceFault>
     requires within { at ≤ length tokens.now.spots.items }
-    ensures reads { Answer limits Function Any (λ r. function_of r.0) (λ r. r.1) tokens.now at
-        result }
+    ensures reads { Answer limits (Function home) Any (λ r. function_of r.0) (λ r. r.1)
+        tokens.now at result }
     ensures moves { IfOk result (λ r. (at < r.1) × (r.1 ≤ length tokens.now.spots.items)) }
 {
     let here = place(tokens, at);
     let (returns, at) = ty(alloc, tokens, at, 1)?;
-    let read = routine(alloc, tokens, at, false, limits)?;
+    let read = routine(alloc, tokens, at, home, limits)?;
     let function = FunctionDecl {
         at: here,
         returns,
@@ -207,6 +209,22 @@ pub fn function(
         close: read.close,
     };
     Ok((function, read.to))
+}
+
+// What an actor gives: `"Future" "<" type ">"`, or `"void"` for nothing.
+fn gives(alloc: Global, tokens: &Tokens, at: usize) -> Result<(Option<Ty>, usize), SourceFault>
+    requires within { at ≤ length tokens.now.spots.items }
+    ensures reads { AnswerAlways Gives Any (λ r. result_of r.0) (λ r. r.1) tokens.now at result }
+    ensures moves { IfOk result (λ r. (at < r.1) × (r.1 ≤ length tokens.now.spots.items)) }
+{
+    if is_word(tokens, at, Word::NoResult) {
+        return Ok((None, at + 1));
+    }
+    let at = word(tokens, at, Word::Future)?;
+    let at = sign(tokens, at, Sign::Less)?;
+    let (ty, at) = ty(alloc, tokens, at, 2)?;
+    let to = sign(tokens, at, Sign::Greater)?;
+    Ok((Some(ty), to))
 }
 
 fn actor(
@@ -221,14 +239,11 @@ fn actor(
     ensures moves { IfOk result (λ r. (at < r.1) × (r.1 ≤ length tokens.now.spots.items)) }
 {
     let here = place(tokens, at);
-    let at = word(tokens, at + 1, Word::Future)?;
-    let at = sign(tokens, at, Sign::Less)?;
-    let (returns, at) = ty(alloc, tokens, at, 2)?;
-    let at = sign(tokens, at, Sign::Greater)?;
-    let read = routine(alloc, tokens, at, true, limits)?;
+    let (returns, at) = gives(alloc, tokens, at + 1)?;
+    let read = routine(alloc, tokens, at, RoutineKind::Actor, limits)?;
     let actor = ActorDecl {
         at: here,
-        returns: Some(returns),
+        returns,
         name: read.name,
         params: read.params,
         body: read.body,
@@ -263,6 +278,6 @@ pub fn decl(
         let (actor, to) = actor(alloc, tokens, at, limits)?;
         return Ok((Decl::Actor(actor), to));
     }
-    let (function, to) = function(alloc, tokens, at, limits)?;
+    let (function, to) = function(alloc, tokens, at, RoutineKind::Function, limits)?;
     Ok((Decl::Function(function), to))
 }

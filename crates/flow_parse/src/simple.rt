@@ -1,6 +1,6 @@
 // Declarations of variables, waits, paths, changes and calls.
 
-ghost use Rattle.std.specs.Prelude.{◌≡◌, ℕ, ◌+◌, ◌<◌, ◌≤◌, length, IfOk, Some, None, false};
+ghost use Rattle.std.specs.Prelude.{◌≡◌, ◌↔◌, ℕ, ◌+◌, ◌<◌, ◌≤◌, length, IfOk, IsTrue, Some, None, false};
 ghost use Rattle.std.specs.Bool.{OnTrue};
 ghost use Rattle.flow_tree.specs.declared.token.Word.TheVariants as word;
 ghost use Rattle.flow_tree.specs.declared.token.Sign.TheVariants as sign;
@@ -18,6 +18,7 @@ use crate::build;
 use crate::token::{begins_wait, expr, is_sign, is_word, name, read_name, refused, sign, ty};
 use flow_base::place::Place;
 use flow_exprs::token::place;
+use flow_tree::decl::RoutineKind;
 use flow_tree::expr::Expr;
 use flow_tree::fault::{Rule, SourceFault};
 use flow_tree::limits::{DEPTH, Limits};
@@ -33,10 +34,10 @@ pub struct Counts {
     pub variables: u32,
 }
 
-/// Where a statement stands: whether in an actor, how deep, how many have begun in the routine before it, and within which limits.
+/// Where a statement stands: in what routine, how deep, how many have begun in the routine before it, and within which limits.
 #[derive(Clone, Copy)]
 pub struct Around {
-    pub actor: bool,
+    pub routine: RoutineKind,
     pub depth: u32,
     pub counts: Counts,
     pub limits: Limits,
@@ -68,17 +69,27 @@ pub struct ReadWaiting {
     pub counts: Counts,
 }
 
+// Whether a state variable counts there.
+fn counts_state(home: RoutineKind) -> bool
+    ensures { IsTrue result ↔ (home ≡ RoutineKind.Actor) }
+{
+    match home {
+        RoutineKind::Actor => true,
+        RoutineKind::Function | RoutineKind::OldFunction => false,
+    }
+}
+
 /// The word `state`, or nothing: whether it stands here, the number of the token after it, and the
 /// counts there. In an actor L6 is refused at one state variable too many.
 pub fn state(
     tokens: &Tokens,
     at: usize,
-    actor: bool,
+    home: RoutineKind,
     counts: Counts,
     limits: Limits,
 ) -> Result<(bool, usize, Counts), SourceFault>
     requires within { at ≤ length tokens.now.spots.items }
-    ensures reads { Answer limits (StatePart actor (counts_of counts))
+    ensures reads { Answer limits (StatePart home (counts_of counts))
         (NotBefore (token.Word word.State)) (λ r. (r.0, counts_of r.2)) (λ r. r.1) tokens.now at
         result }
     ensures moves { IfOk result (λ r. (at ≤ r.1) × (r.1 ≤ length tokens.now.spots.items)) }
@@ -86,7 +97,7 @@ pub fn state(
     if !is_word(tokens, at, Word::State) {
         return Ok((false, at, counts));
     }
-    if !actor {
+    if !counts_state(home) {
         return Ok((true, at + 1, counts));
     }
     if counts.variables >= limits.variables {
@@ -112,7 +123,7 @@ pub fn into(
         tokens.now at result }
     ensures moves { IfOk result (λ r. (at < r.to) × (r.to ≤ length tokens.now.spots.items)) }
 {
-    let (state, at, counts) = state(tokens, at, around.actor, around.counts, around.limits)?;
+    let (state, at, counts) = state(tokens, at, around.routine, around.counts, around.limits)?;
     let (ty, at) = ty(alloc, tokens, at, around.depth)?;
     let (name, to) = name(alloc, tokens, at)?;
     Ok(ReadInto {

@@ -15,7 +15,7 @@ ghost use Rattle.flow_parse.specs.Reading.{token_at, Any, Answer, AnswerAlways};
 ghost use Rattle.flow_parse.specs.Follow.{ExprEnds, NotBefore};
 ghost use Rattle.flow_parse.specs.Openers.{AsFirst, IntoToken, StmtWord, StmtToken};
 ghost use Rattle.flow_parse.specs.Beyond.{Beyond};
-ghost use Rattle.flow_parse.specs.Parts.{NoElse, Assignment, Catch, AllWhens, MaybeExpr, StartPart, NextPart, Plain, One, BodyPart, Closing, Block, WhenPart, WhensPart};
+ghost use Rattle.flow_parse.specs.Parts.{NoElse, Assignment, Catch, AllWhens, MaybeExpr, Returned, StartPart, NextPart, Plain, One, BodyPart, Closing, Block, WhenPart, WhensPart};
 ghost use Rattle.flow_parse.specs.Views.{counts_of, Within, stmt_out, body_out, block_out, when_out, whens_out, part_out, Stands};
 
 use crate::build;
@@ -27,6 +27,7 @@ use crate::token::{
 };
 use flow_base::place::Place;
 use flow_exprs::token::place;
+use flow_tree::decl::RoutineKind;
 use flow_tree::expr::Expr;
 use flow_tree::fault::{Rule, SourceFault};
 use flow_tree::limits::{DEPTH, Limits};
@@ -551,6 +552,27 @@ fn maybe_expr(
     Ok((Some(expr), to))
 }
 
+// What a `return` gives, which may be nothing where `return;` stands, and the semicolon behind it.
+fn returned(
+    alloc: Global,
+    tokens: &Tokens,
+    at: usize,
+    home: RoutineKind,
+    depth: u32,
+) -> Result<(Option<Expr>, usize), SourceFault>
+    requires within { at ≤ length tokens.now.spots.items }
+    ensures reads { AnswerAlways (Returned home depth) Any (λ r. option_map expr_of r.0) (λ r. r.1)
+        tokens.now at result }
+    ensures moves { IfOk result (λ r. (at < r.1) × (r.1 ≤ length tokens.now.spots.items)) }
+{
+    if home.has_bare_return() {
+        return maybe_expr(alloc, tokens, at, depth);
+    }
+    let (value, at) = expr(alloc, tokens, at, depth)?;
+    let to = sign(tokens, at, Sign::Semicolon)?;
+    Ok((Some(value), to))
+}
+
 #[cycle(stmt)]
 fn for_stmt(
     alloc: Global,
@@ -610,8 +632,7 @@ fn return_stmt(
     ensures moves { IfOk result (λ r. (at < r.to) × (r.to ≤ length tokens.now.spots.items)) }
 {
     let here = place(tokens, at);
-    let (value, at) = expr(alloc, tokens, at + 1, around.depth + 1)?;
-    let to = sign(tokens, at, Sign::Semicolon)?;
+    let (value, to) = returned(alloc, tokens, at + 1, around.routine, around.depth + 1)?;
     Ok(ended(build::return_stmt(here, value), to, around.counts))
 }
 
@@ -753,7 +774,7 @@ fn when(
 ) -> Result<ReadWhen, SourceFault>
     requires within { at ≤ length tokens.now.spots.items }
     requires shallow { around.depth ≤ 65 }
-    ensures reads { Answer around.limits (WhenPart around.actor around.depth (before + 1)
+    ensures reads { Answer around.limits (WhenPart around.routine around.depth (before + 1)
         (counts_of around.counts)) (NotBefore (token.Word word.Else)) when_out (λ r. r.to)
         tokens.now at result }
     ensures few { IfOk result (λ r. before < around.limits.branches) }

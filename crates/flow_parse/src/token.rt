@@ -210,6 +210,7 @@ pub fn is_type_word(word: Word) -> bool
     match word {
         Word::Int | Word::Bool | Word::Str | Word::Void | Word::Error => true,
         Word::Future | Word::FutureStream | Word::Promise | Word::PromiseStream => true,
+        Word::Vector => true,
         _ => false,
     }
 }

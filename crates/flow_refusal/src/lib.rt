@@ -8,6 +8,7 @@ mod paint;
 mod reading;
 mod saying;
 mod telling;
+mod version;
 mod waiting;
 mod warned;
 mod watcher;

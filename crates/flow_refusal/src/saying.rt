@@ -1,6 +1,7 @@
 // What a note says beyond the first place: other places, and how it is mended.
 
 use crate::telling::put_remark;
+use crate::version::{NEWER, asks_for_two};
 use crate::words::{SCRIPT_WORDS, class_key, mend_words, program_key, world_key};
 use flow_base::memory::NoMemory;
 use flow_classread::fault::ClassFault;
@@ -60,10 +61,25 @@ pub fn program_more(
     Ok(out)
 }
 
+// What is said of a class text that lacks the forms of a later version, and nothing of another one.
+fn class_hint(alloc: Global, text: &[u8], fault: &ClassFault) -> Result<Hint, NoMemory> {
+    let mut hint = Hint::new(alloc);
+    if let ClassFault::Form(line) = fault {
+        if asks_for_two(alloc, text, *line)? {
+            hint.advise(NEWER.as_bytes().to_vec(alloc)?)?;
+        }
+    }
+    Ok(hint)
+}
+
 /// How the fault of a class text is mended.
-pub fn class_more(alloc: Global, fault: &ClassFault) -> Result<Vec<u8>, NoMemory> {
+pub fn class_more(alloc: Global, text: &[u8], fault: &ClassFault) -> Result<Vec<u8>, NoMemory> {
     let mut out = Vec::new(alloc);
-    put_mend(&mut out, &Hint::new(alloc), &class_key(alloc, fault)?)?;
+    put_mend(
+        &mut out,
+        &class_hint(alloc, text, fault)?,
+        &class_key(alloc, fault)?,
+    )?;
     Ok(out)
 }
 

@@ -303,7 +303,7 @@ fn on_class_fault(
 {
     match class_words(fault) {
         Some(words) => {
-            let more = class_more(alloc, fault)?;
+            let more = class_more(alloc, text, fault)?;
             on_class(alloc, name, text, fault, words.as_bytes(), &more)
         }
         None => Ok(Vec::new(alloc)),

@@ -82,7 +82,7 @@ fn error_name(error: u64) -> &'static [u8] {
         1100 => b" (broken_promise)",
         1101 => b" (operation_cancelled)",
         9001 => b" (arithmetic out of range, or calls too deep)",
-        9002 => b" (a string is too long)",
+        9002 => b" (a string or a vector is too long)",
         9003 => b" (a second waiter at one stream)",
         9004 => b" (a send on a set result or an ended stream)",
         9005 => b" (a port that is listened to)",

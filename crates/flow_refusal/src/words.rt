@@ -224,6 +224,7 @@ flow exec CLASSES WORLD [OPTIONS]    runs classes that `compile` wrote
 flow bench CLIENTS SEED              runs a generated program and writes how much it did
 flow shrink PROGRAM WORLD [OPTIONS]  cuts a world's script down to what stops `--monitor NAME=LIMIT`
 flow debug PROGRAM WORLD K           writes where the actors are after K events, and their variables
+flow upgrade CLASSES                 writes a class text anew, in the newest version
 Options: `--frames` writes the frames and callbacks after each event; `--monitor NAME=LIMIT,..`
 stops at a monitor's limit: `live`, how many actors live; `errors`, how many errors are thrown;
 `until`, the number of an event. Behind `--` a name may begin with `-`.

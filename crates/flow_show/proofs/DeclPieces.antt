@@ -1,5 +1,5 @@
 -- Declarations are read back from their texts.
-use Rattle.std.proofs.Common.{◌≡◌, ℕ, ◌<◌, List, [], ◌∷◌, ◌++◌, map, length, refl, sym, ap, ap₂, ◌∙◌, subst, arith, append_assoc, length-append, Bool}
+use Rattle.std.proofs.Common.{◌≡◌, ℕ, ◌<◌, List, [], ◌∷◌, ◌++◌, map, length, refl, sym, ap, ap₂, ◌∙◌, subst, arith, append_assoc, length-append}
 use Rattle.std.proofs.lemmas.List.{length-map}
 use Rattle.std.specs.Prelude.{codes}
 use Rattle.flow_base.specs.declared.place.Place.{Place}
@@ -8,14 +8,16 @@ use Rattle.flow_tree.specs.declared.token.Sign.TheVariants as sign
 use Rattle.flow_tree.specs.declared.ty.Ty.{Ty}
 use Rattle.flow_tree.specs.declared.ty.Ty.TheOpen as layer
 use Rattle.flow_tree.specs.declared.ty.Ty.TheOpen.{Ty-F}
-use Rattle.flow_tree.specs.Tree.{TypeTree}
+use Rattle.flow_tree.specs.declared.decl.RoutineKind.{RoutineKind}
+use Rattle.flow_tree.specs.declared.decl.RoutineKind.TheVariants.{Actor}
+use Rattle.flow_tree.specs.Tree.{TypeTree, NothingType}
 use Rattle.flow_tree.specs.View.{type_of, type_step}
 use Rattle.flow_tree.proofs.Views.{by_layer}
 use Rattle.flow_tree.specs.Decls.{ParamTree, RecordTree, RoutineTree, DeclTree, StructDecl, FunctionDecl, ActorDecl}
 use Rattle.flow_tree.specs.GrammarToken.{Declaration, Node, Variable, Marked, begin}
-use Rattle.flow_tree.specs.Grammar.{sign_at, word_at, name_at, FutureOf, FutureStreamOf, PromiseOf, PromiseStreamOf, TypeRule, int_type, bool_type, string_type, void_type, error_type, named_type, wrapped_type}
+use Rattle.flow_tree.specs.Grammar.{sign_at, word_at, name_at, FutureOf, FutureStreamOf, PromiseOf, PromiseStreamOf, VectorOf, TypeRule, int_type, bool_type, string_type, void_type, error_type, named_type, wrapped_type}
 use Rattle.flow_tree.specs.GrammarStmt.{StmtsRule}
-use Rattle.flow_tree.specs.GrammarDecl.{ParamRule, param, FieldsRule, no_fields, more_fields, MoreParamsRule, end_params, more_params, ParamsRule, no_params, some_params, RecordRule, fields, RoutineRule, routine, DeclRule, record_decl, function_decl, actor_decl, DeclsRule, no_decls, more_decls}
+use Rattle.flow_tree.specs.GrammarDecl.{ParamRule, param, FieldsRule, no_fields, more_fields, MoreParamsRule, end_params, more_params, ParamsRule, no_params, some_params, RecordRule, fields, RoutineRule, routine, FunctionRule, function, ActorRule, actor, void_actor, DeclRule, record_decl, function_decl, actor_decl, DeclsRule, no_decls, more_decls}
 use Rattle.flow_tree.specs.Canon.{type_text, actor_text, named_text, line, fields_text, more_params_text, params_text, routine_text, decl_text, decls_text, body_text, first_place, placeless_ident, placeless_param, placeless_record, placeless_routine, placeless_decl}
 use Rattle.flow_show.proofs.Going.{Piece, Any, nothing, both, as_rule, begun, begin_some, behind, spaced, lined, under, blank}
 use Rattle.flow_show.proofs.TokenPieces.{Apart, name_piece, word_piece, sign_piece, Ends, comma_ends, space_ends}
@@ -142,10 +144,10 @@ record_piece (fields {f = f} {fs = fs} at p q r x xs rule e) v =
 
 -- functions and actors behind their result
 
-pub record RoutineKept (actor : Bool) (t : TypeTree) (r : RoutineTree) : Type 0 where
+pub record RoutineKept (home : RoutineKind) (t : TypeTree) (r : RoutineTree) : Type 0 where
   pub marked : List Marked
   pub make : Place → RoutineTree
-  pub rule : (at : Place) → RoutineRule actor at t marked (make at)
+  pub rule : (at : Place) → RoutineRule home at t marked (make at)
   pub like : (at : Place) → placeless_routine (make at) ≡ placeless_routine r
 
 abbrev tail_text : RoutineTree → List ℕ
@@ -160,9 +162,9 @@ routine_is w r = routine_by w r.name.name (params_text r.params) (body_text 1 r.
 same_length : (xs ys : List ParamTree) → map placeless_param xs ≡ map placeless_param ys → length ys ≡ length xs
 same_length xs ys e = omega (arith, ap length e, length-map xs placeless_param, length-map ys placeless_param)
 
-pub routine_piece : {actor : Bool} {at : Place} {t : TypeTree} {m : List Marked} {r : RoutineTree} → RoutineRule actor at t m r → AllValid m
-    → Piece {X = RoutineKept actor t r} (λ y. y.marked) m (tail_text r) Any
-routine_piece {actor} {at} {t} (routine {c = c} {ps = ps} p q r close x params xs pr sr e) v =
+pub routine_piece : {home : RoutineKind} {at : Place} {t : TypeTree} {m : List Marked} {r : RoutineTree} → RoutineRule home at t m r → AllValid m
+    → Piece {X = RoutineKept home t r} (λ y. y.marked) m (tail_text r) Any
+routine_piece {home} {at} {t} (routine {c = c} {ps = ps} p q r close x params xs pr sr e) v =
     let a = subst AllValid e v in
     let second = valid_right params _ (valid_tail (valid_tail a)) in
     as_rule
@@ -172,7 +174,7 @@ routine_piece {actor} {at} {t} (routine {c = c} {ps = ps} p q r close x params x
       marked = _;
       make = λ at'. record { at = at'; returns = t; name = record { name = x.name; at = y.0 }; params = y.1.1.0.trees; body = y.1.1.1.1.1.0.tree; close = y.1.1.1.1.1.1 };
       rule = λ at'. routine y.1.0 y.1.1.1.0 y.1.1.1.1.0 y.1.1.1.1.1.1 (record { name = x.name; at = y.0 }) y.1.1.0.marked y.1.1.1.1.1.0.marked y.1.1.0.rule
-          (subst (λ n. StmtsRule actor 2 (record { statements = 0; variables = n }) c y.1.1.1.1.1.0.marked y.1.1.1.1.1.0.tree) (same_length y.1.1.0.trees ps y.1.1.0.like) y.1.1.1.1.1.0.rule) refl;
+          (subst (λ n. StmtsRule home 2 (record { statements = 0; variables = n }) c y.1.1.1.1.1.0.marked y.1.1.1.1.1.0.tree) (same_length y.1.1.0.trees ps y.1.1.0.like) y.1.1.1.1.1.0.rule) refl;
       like = λ at'. λ i. record { at = first_place; returns = t; name = placeless_ident x; params = y.1.1.0.like i; body = y.1.1.1.1.1.0.like i; close = first_place };
     })
     (λ y. refl) e refl
@@ -205,43 +207,56 @@ read_text (wrapped_type FutureOf p q r of k e) = refl
 read_text (wrapped_type FutureStreamOf p q r of k e) = refl
 read_text (wrapped_type PromiseOf p q r of k e) = refl
 read_text (wrapped_type PromiseStreamOf p q r of k e) = refl
+read_text (wrapped_type VectorOf p q r of k e) = refl
 
-returns_is : {actor : Bool} {at : Place} {t : TypeTree} {m : List Marked} {r : RoutineTree} → RoutineRule actor at t m r → r.returns ≡ t
+returns_is : {home : RoutineKind} {at : Place} {t : TypeTree} {m : List Marked} {r : RoutineTree} → RoutineRule home at t m r → r.returns ≡ t
 returns_is (routine p q r close x params xs pr sr e) = refl
 
--- declarations
+-- functions
 
-pub record DeclKept (x : DeclTree) : Type 0 where
+pub record FunctionKept (home : RoutineKind) (f : RoutineTree) : Type 0 where
   pub marked : List Marked
-  pub tree : DeclTree
-  pub rule : DeclRule marked tree
-  pub like : placeless_decl tree ≡ placeless_decl x
+  pub tree : RoutineTree
+  pub rule : FunctionRule home marked tree
+  pub like : placeless_routine tree ≡ placeless_routine f
   pub some : 0 < length marked
 
-record_some : {m : List Marked} {r : RecordTree} → RecordRule m r → 0 < length m
-record_some (fields at p q r x xs rule e) = some_in [] _ _ e
+pub function_some : {home : RoutineKind} {m : List Marked} {f : RoutineTree} → FunctionRule home m f → 0 < length m
+function_some (function at of xs tr rr e st) = starts_some _ at st
 
-pub decl_some : {m : List Marked} {x : DeclTree} → DeclRule m x → 0 < length m
-decl_some (record_decl r) = record_some r
-decl_some (function_decl at of xs tr rr e st) = starts_some _ at st
-decl_some (actor_decl at p q r of xs tr rr e) = some_in [] _ _ e
-
-pub decl_piece : {m : List Marked} {x : DeclTree} → DeclRule m x → AllValid m → Piece {X = DeclKept x} (λ y. y.marked) m (decl_text x) Any
-decl_piece (record_decl r) v =
-    as_rule (record_piece r v) (λ y. record { marked = y.marked; tree = _; rule = record_decl y.rule; like = ap StructDecl y.like; some = record_some y.rule }) (λ y. refl) refl refl
-decl_piece (function_decl {t = t} {f = f} at of xs tr rr e st) v =
+pub function_piece : {home : RoutineKind} {m : List Marked} {f : RoutineTree} → FunctionRule home m f → AllValid m
+    → Piece {X = FunctionKept home f} (λ y. y.marked) m (decl_text (FunctionDecl f)) Any
+function_piece (function {t = t} {f = f} at of xs tr rr e st) v =
     let a = subst AllValid e v in
     as_rule
     (lined 0 (both (type_piece tr (valid_left of _ a)) (spaced (routine_piece rr (valid_right of _ a))) (λ rest g. space _)) (λ rest. tt))
     (λ y. record {
       marked = _;
       tree = _;
-      rule = function_decl (first_at y.0.marked) y.0.marked y.1.marked y.0.rule (y.1.rule (first_at y.0.marked)) refl (starts y.0.marked _ (type_some y.0.rule));
-      like = ap FunctionDecl (y.1.like (first_at y.0.marked));
+      rule = function (first_at y.0.marked) y.0.marked y.1.marked y.0.rule (y.1.rule (first_at y.0.marked)) refl (starts y.0.marked _ (type_some y.0.rule));
+      like = y.1.like (first_at y.0.marked);
       some = omega (arith, length-append y.0.marked y.1.marked, type_some y.0.rule);
     })
     (λ y. refl) e (routine_is (type_text f.returns) f ∙ ap (λ u. line 0 (type_text u ++ (32 ∷ tail_text f))) (returns_is rr))
-decl_piece (actor_decl {t = t} {f = f} at p q r of xs tr rr e) v =
+
+-- actors
+
+pub record ActorKept (f : RoutineTree) : Type 0 where
+  pub marked : List Marked
+  pub tree : RoutineTree
+  pub rule : ActorRule marked tree
+  pub like : placeless_routine tree ≡ placeless_routine f
+  pub some : 0 < length marked
+
+pub actor_some : {m : List Marked} {f : RoutineTree} → ActorRule m f → 0 < length m
+actor_some (actor at p q r of xs tr rr e) = some_in [] _ _ e
+actor_some (void_actor at p xs rr e) = some_in [] _ _ e
+
+actor_is : {at : Place} {t : TypeTree} {m : List Marked} (f : RoutineTree) → RoutineRule Actor at t m f → decl_text (ActorDecl f) ≡ line 0 (actor_text t ++ (32 ∷ tail_text f))
+actor_is f rr = routine_is (actor_text f.returns) f ∙ ap (λ u. line 0 (actor_text u ++ (32 ∷ tail_text f))) (returns_is rr)
+
+pub actor_piece : {m : List Marked} {f : RoutineTree} → ActorRule m f → AllValid m → Piece {X = ActorKept f} (λ y. y.marked) m (decl_text (ActorDecl f)) Any
+actor_piece (actor {t = t} {f = f} at p q r of xs tr rr e) v =
     let a = valid_tail (valid_tail (valid_tail (subst AllValid e v))) in
     let inner = valid_left of _ a in
     as_rule
@@ -252,13 +267,50 @@ decl_piece (actor_decl {t = t} {f = f} at p q r of xs tr rr e) v =
     (λ y. record {
       marked = _;
       tree = _;
-      rule = actor_decl y.0 y.1.0 y.1.1.0 y.1.1.1.1.0 y.1.1.1.0.marked y.1.1.1.1.1.marked y.1.1.1.0.rule (y.1.1.1.1.1.rule y.0) refl;
-      like = ap ActorDecl (y.1.1.1.1.1.like y.0);
+      rule = actor y.0 y.1.0 y.1.1.0 y.1.1.1.1.0 y.1.1.1.0.marked y.1.1.1.1.1.marked y.1.1.1.0.rule (y.1.1.1.1.1.rule y.0) refl;
+      like = y.1.1.1.1.1.like y.0;
       some = omega arith;
     })
     (λ y. refl) e
-    (routine_is (actor_text f.returns) f ∙ ap (λ u. line 0 (actor_text u ++ (32 ∷ tail_text f))) (returns_is rr) ∙ ap (λ w. line 0 (w ++ (32 ∷ tail_text f))) (read_text tr)
+    (actor_is f rr ∙ ap (λ w. line 0 (w ++ (32 ∷ tail_text f))) (read_text tr)
     ∙ ap (λ l. line 0 (codes "ACTOR Future<" ++ l)) (append_assoc (type_text t) (codes ">") (32 ∷ tail_text f)))
+actor_piece (void_actor {f = f} at p xs rr e) v =
+    as_rule
+    (lined 0 (both (word_piece [] word.Actor at) (spaced (both (word_piece [] word.NoResult p) (spaced (routine_piece rr (valid_tail (valid_tail (subst AllValid e v)))))
+    (λ rest g. refl))) (λ rest g. refl)) (λ rest. tt))
+    (λ y. record {
+      marked = _;
+      tree = _;
+      rule = void_actor y.0 y.1.0 y.1.1.marked (y.1.1.rule y.0) refl;
+      like = y.1.1.like y.0;
+      some = omega arith;
+    })
+    (λ y. refl) e (actor_is f rr)
+
+-- declarations
+
+pub record DeclKept (x : DeclTree) : Type 0 where
+  pub marked : List Marked
+  pub tree : DeclTree
+  pub rule : DeclRule marked tree
+  pub like : placeless_decl tree ≡ placeless_decl x
+  pub some : 0 < length marked
+
+pub record_some : {m : List Marked} {r : RecordTree} → RecordRule m r → 0 < length m
+record_some (fields at p q r x xs rule e) = some_in [] _ _ e
+
+pub decl_some : {m : List Marked} {x : DeclTree} → DeclRule m x → 0 < length m
+decl_some (record_decl r) = record_some r
+decl_some (function_decl f) = function_some f
+decl_some (actor_decl a) = actor_some a
+
+pub decl_piece : {m : List Marked} {x : DeclTree} → DeclRule m x → AllValid m → Piece {X = DeclKept x} (λ y. y.marked) m (decl_text x) Any
+decl_piece (record_decl r) v =
+    as_rule (record_piece r v) (λ y. record { marked = y.marked; tree = _; rule = record_decl y.rule; like = ap StructDecl y.like; some = record_some y.rule }) (λ y. refl) refl refl
+decl_piece (function_decl f) v =
+    as_rule (function_piece f v) (λ y. record { marked = y.marked; tree = _; rule = function_decl y.rule; like = ap FunctionDecl y.like; some = y.some }) (λ y. refl) refl refl
+decl_piece (actor_decl a) v =
+    as_rule (actor_piece a v) (λ y. record { marked = y.marked; tree = _; rule = actor_decl y.rule; like = ap ActorDecl y.like; some = y.some }) (λ y. refl) refl refl
 
 pub record DeclsKept (n : ℕ) (xs : List DeclTree) : Type 0 where
   pub marked : List Marked

@@ -13,13 +13,13 @@ use Rattle.flow_tree.specs.declared.token.Sign.TheVariants as sign
 use Rattle.flow_tree.specs.declared.expr.Op.{Op}
 use Rattle.flow_tree.specs.declared.expr.Op.TheVariants.{Or}
 use Rattle.flow_tree.specs.Spelling.{word_bytes, sign_bytes}
-use Rattle.flow_tree.specs.Tree.{ByName, TypeTree, ExprTree, ExprTrees, IntExpr, TextExpr, BoolExpr, VoidExpr, VarExpr, CallExpr, FieldExpr, MethodExpr, NotExpr, NegExpr, BinaryExpr, ParenExpr, NoExprs, MoreExprs}
+use Rattle.flow_tree.specs.Tree.{ByName, ByIndex, indexed, TypeTree, ExprTree, ExprTrees, IntExpr, TextExpr, BoolExpr, VoidExpr, VarExpr, CallExpr, FieldExpr, MethodExpr, NotExpr, NegExpr, BinaryExpr, ParenExpr, NoExprs, MoreExprs}
 use Rattle.flow_tree.specs.GrammarToken.{Node, Marked, opens, begin}
-use Rattle.flow_tree.specs.Grammar.{sign_at, node_sign, Wrapper, FutureOf, FutureStreamOf, PromiseOf, PromiseStreamOf, wrapper_word, wrapped, TypeRule, int_type, bool_type, string_type, void_type, error_type, named_type, wrapped_type, level, op_sign, ExprRule, number, text, truth, falsehood, void, variable, call, paren, field, method, negation, minus, binary, ArgsRule, no_args, some_args, MoreArgsRule, end_args, more_args}
+use Rattle.flow_tree.specs.Grammar.{sign_at, node_sign, Wrapper, FutureOf, FutureStreamOf, PromiseOf, PromiseStreamOf, VectorOf, wrapper_word, wrapped, TypeRule, int_type, bool_type, string_type, void_type, error_type, named_type, wrapped_type, level, op_sign, ExprRule, number, text, truth, falsehood, void, variable, call, paren, field, method, index, negation, minus, binary, ArgsRule, no_args, some_args, MoreArgsRule, end_args, more_args}
 use Rattle.flow_tree.specs.Canon.{type_text, minus_gap, expr_text, args_text, more_args_text, placeless_ident, placeless_expr, placeless_exprs}
 use Rattle.flow_lex.proofs.Bytes.{true_false, word_is_name}
 use Rattle.flow_show.proofs.Going.{Piece, nothing, both, as_rule, begun, spaced, under}
-use Rattle.flow_show.proofs.TokenPieces.{Apart, name_piece, word_piece, sign_piece, Ends, opens_expr, open_round_ends, close_round_ends, comma_ends, dot_ends, not_ends, minus_ends, less_ends, greater_greater, greater_semicolon, space_ends}
+use Rattle.flow_show.proofs.TokenPieces.{Apart, name_piece, word_piece, sign_piece, Ends, opens_expr, open_round_ends, close_round_ends, open_square_ends, close_square_ends, comma_ends, dot_ends, not_ends, minus_ends, less_ends, greater_greater, greater_semicolon, space_ends}
 use Rattle.flow_show.proofs.ValuePieces.{number_piece, text_piece, decimal_opens}
 use Rattle.flow_show.proofs.Valid.{AllValid, valid_head, valid_tail, valid_left, valid_right, valid_begun}
 
@@ -47,6 +47,7 @@ wrapped_text FutureOf t = refl
 wrapped_text FutureStreamOf t = refl
 wrapped_text PromiseOf t = refl
 wrapped_text PromiseStreamOf t = refl
+wrapped_text VectorOf t = refl
 
 -- a type begins with a letter
 pub record Lettered (w : List ℕ) : Type 0 where
@@ -140,6 +141,7 @@ expr_some (call f p q args r e) = some_in [] _ _ e
 expr_some (paren p q of r e) = some_in [] _ _ e
 expr_some {k} {d} (field p x of r e) = some_in (begin (Node d) of) _ _ e
 expr_some {k} {d} (method p q r f of args a b e) = some_in (begin (Node d) of) _ _ e
+expr_some {k} {d} (index p q of at a b e) = some_in (begin (Node d) of) _ _ e
 expr_some (negation p of le r e) = some_in [] _ _ e
 expr_some (minus p of le r e) = some_in [] _ _ e
 expr_some {k} {d} (binary op p left right le a b e) = some_in (begin (Node d) left) _ _ e
@@ -227,6 +229,9 @@ call_text f a = simp append_assoc refl
 pub method_text : (t f a : List ℕ) → t ++ codes "." ++ f ++ codes "(" ++ a ++ codes ")" ≡ t ++ (46 ∷ (f ++ (40 ∷ (a ++ 41 ∷ []))))
 method_text t f a = simp append_assoc refl
 
+pub index_text : (t i : List ℕ) → t ++ codes "[" ++ (i ++ []) ++ codes "]" ≡ t ++ (91 ∷ (i ++ 93 ∷ []))
+index_text t i = simp (append_assoc, append-nil) refl
+
 pub field_text : (t f : List ℕ) → t ++ codes "." ++ f ≡ t ++ (46 ∷ f)
 field_text t f = simp append_assoc refl
 
@@ -252,6 +257,10 @@ expr_opens {k} {d} (field {t = t} p x of r e) v =
 expr_opens {k} {d} (method {t = t} {ts = ts} p q r f of args a b e) v =
     subst (Opening k (MethodExpr t (ByName f) ts)) (sym (method_text (expr_text t) f.name (args_text ts)))
     (more_opens k (MethodExpr t (ByName f) ts) t (expr_text t) (46 ∷ (f.name ++ (40 ∷ (args_text ts ++ 41 ∷ []))))
+    (expr_opens a (valid_begun (Node d) of (valid_left (begin (Node d) of) _ (subst AllValid e v)))))
+expr_opens {k} {d} (index {t = t} {i = i} p q of at a b e) v =
+    subst (Opening k (indexed t i)) (sym (index_text (expr_text t) (expr_text i)))
+    (more_opens k (indexed t i) t (expr_text t) (91 ∷ (expr_text i ++ 93 ∷ []))
     (expr_opens a (valid_begun (Node d) of (valid_left (begin (Node d) of) _ (subst AllValid e v)))))
 expr_opens {k} (negation p of le r e) v = byte_opens k (NotExpr _) 33 _ refl (λ e. omega (arith, e))
 expr_opens {k} (minus {t = t} p of le r e) v = record {
@@ -287,6 +296,9 @@ more_apart (MoreExprs t ts) rest = refl
 
 pub shut : (p : Place) → Piece {X = Place} (λ x. sign_at sign.CloseRound x ∷ []) (sign_at sign.CloseRound p ∷ []) (41 ∷ []) Apart
 shut p = under (sign_piece [] sign.CloseRound p) (λ rest g. close_round_ends rest)
+
+square_shut : (p : Place) → Piece {X = Place} (λ x. sign_at sign.CloseSquare x ∷ []) (sign_at sign.CloseSquare p ∷ []) (93 ∷ []) Apart
+square_shut p = under (sign_piece [] sign.CloseSquare p) (λ rest g. close_square_ends rest)
 
 -- behind arguments comes a closing bracket
 pub data Closing : List ℕ → Type 0 where
@@ -361,6 +373,19 @@ mutual
         like = ap₂ (λ u us. MethodExpr u (ByName (placeless_ident f)) us) y.0.like y.1.1.1.1.0.like;
       })
       (λ y. refl) e (method_text (expr_text t) f.name (args_text ts))
+  expr_piece {k} {d} (index {t = t} {i = i} p q of at b c e) v =
+      let a = subst AllValid e v in
+      as_rule
+      (both (begun (Node d) (λ y. expr_some y.rule) (expr_some b) (expr_piece b (valid_begun (Node d) of (valid_left (begin (Node d) of) _ a))))
+      (both (sign_piece [] sign.OpenSquare p)
+      (both (expr_piece c (valid_left at _ (valid_tail (valid_right (begin (Node d) of) _ a)))) (square_shut q) (λ rest g. refl)) (λ rest g. open_square_ends _)) (λ rest g. refl))
+      (λ y. record {
+        marked = _;
+        tree = _;
+        rule = index y.1.0 y.1.1.1 y.0.marked y.1.1.0.marked y.0.rule y.1.1.0.rule refl;
+        like = ap₂ indexed y.0.like y.1.1.0.like;
+      })
+      (λ y. refl) e (index_text (expr_text t) (expr_text i))
   expr_piece {k} {d} (negation {t = t} p of le r e) v =
       let w = valid_tail (subst AllValid e v) in
       as_rule (both (sign_piece (Node d ∷ []) sign.Not p) (expr_piece r w) (λ rest g. not_by t (expr_text t) rest (expr_opens r w)))

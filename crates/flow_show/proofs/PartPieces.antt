@@ -8,11 +8,12 @@ use Rattle.flow_base.specs.declared.place.Place.{Place}
 use Rattle.flow_tree.specs.declared.token.Word.TheVariants as word
 use Rattle.flow_tree.specs.declared.token.Sign.TheVariants as sign
 use Rattle.flow_tree.specs.declared.ty.Ident.{Ident}
+use Rattle.flow_tree.specs.declared.decl.RoutineKind.{RoutineKind}
 use Rattle.flow_tree.specs.Tree.{TypeTree, ExprTree}
 use Rattle.flow_tree.specs.Body.{IntoTree, WaitTree, PlusChange, MinusChange, UpChange, DownChange, Body, End, DeclareStmt, AssignStmt, ModifyStmt}
 use Rattle.flow_tree.specs.GrammarToken.{Statement, Node, Marked, begin}
 use Rattle.flow_tree.specs.Grammar.{name_at, TypeRule}
-use Rattle.flow_tree.specs.GrammarStmt.{Counts, state_parts, begin_statement, StartsAt, StateRule, no_state, some_state, IntoRule, declared, OperandRule, wait, wait_next, WaitingRule, plain_wait, into_wait, PathRule, last_name, more_names, AssignRule, assign, plus, minus, up, down, InitRule, declare, declare_value, change, InitPart, no_init, some_init, StepPart, no_step, some_step, MaybeExprRule, no_expr, some_expr}
+use Rattle.flow_tree.specs.GrammarStmt.{Counts, state_parts, begin_statement, StartsAt, StateRule, no_state, some_state, IntoRule, declared, OperandRule, wait, wait_next, WaitingRule, plain_wait, into_wait, PathRule, last_name, more_names, AssignRule, assign, plus, minus, up, down, InitRule, declare, declare_value, change, InitPart, no_init, some_init, StepPart, no_step, some_step, MaybeExprRule, no_expr, some_expr, ReturnedRule, nothing as no_value, something}
 use Rattle.flow_tree.specs.Canon.{type_text, expr_text, path_text, into_text, waiting_text, maybe_text, part_text, first_place, placeless_ident, placeless_expr, placeless_into, placeless_wait, placeless_body}
 use Rattle.flow_show.proofs.Going.{Piece, Gap, nothing, both, as_rule, begun, begin_some, behind, spaced, under}
 use Rattle.flow_show.proofs.TokenPieces.{Apart, name_piece, word_piece, sign_piece, open_round_ends, dot_ends, plus_plus_ends, minus_minus_ends, space_ends}
@@ -34,19 +35,19 @@ starts_some (x ∷ xs) p s = omega arith
 
 -- declared variables
 
-pub record IntoKept (actor : Bool) (d : ℕ) (c c' : Counts) (i : IntoTree) : Type 0 where
+pub record IntoKept (home : RoutineKind) (d : ℕ) (c c' : Counts) (i : IntoTree) : Type 0 where
   pub marked : List Marked
   pub tree : IntoTree
-  pub rule : IntoRule actor d c c' marked tree
+  pub rule : IntoRule home d c c' marked tree
   pub like : placeless_into tree ≡ placeless_into i
   pub some : 0 < length marked
 
 named_is : (t n : List ℕ) → t ++ codes " " ++ n ≡ t ++ (32 ∷ n)
 named_is t n = append_assoc t (codes " ") n
 
-pub into_by : {actor : Bool} {d : ℕ} {c c' : Counts} {s : Bool} {t : TypeTree} {m : List Marked} (x : Ident) (kept of : List Marked) → StateRule actor c c' kept s → TypeRule d of t
+pub into_by : {home : RoutineKind} {d : ℕ} {c c' : Counts} {s : Bool} {t : TypeTree} {m : List Marked} (x : Ident) (kept of : List Marked) → StateRule home c c' kept s → TypeRule d of t
     → m ≡ kept ++ (of ++ name_at x ∷ []) → AllValid (kept ++ (of ++ name_at x ∷ []))
-    → Piece {X = IntoKept actor d c c' (record { state = s; ty = t; name = x })} (λ y. y.marked) m (into_text (record { state = s; ty = t; name = x })) Apart
+    → Piece {X = IntoKept home d c c' (record { state = s; ty = t; name = x })} (λ y. y.marked) m (into_text (record { state = s; ty = t; name = x })) Apart
 into_by {t = t} x kept of no_state r e v =
     as_rule (both (type_piece r (valid_left of _ v)) (spaced (name_piece [] x.name x.at (valid_head (valid_right of _ v)))) (λ rest g. space _))
     (λ y. record {
@@ -57,10 +58,10 @@ into_by {t = t} x kept of no_state r e v =
       some = some_in y.0.marked _ [] refl;
     })
     (λ y. refl) e (named_is (type_text t) x.name)
-into_by {actor} {d} {c} {t = t} x kept of (some_state p) r e v =
+into_by {home} {d} {c} {t = t} x kept of (some_state p) r e v =
     let w = valid_tail v in
     as_rule
-    (both (word_piece (state_parts actor c) word.State p)
+    (both (word_piece (state_parts home c) word.State p)
     (spaced (both (type_piece r (valid_left of _ w)) (spaced (name_piece [] x.name x.at (valid_head (valid_right of _ w)))) (λ rest g. space _))) (λ rest g. refl))
     (λ y. record {
       marked = _;
@@ -71,8 +72,8 @@ into_by {actor} {d} {c} {t = t} x kept of (some_state p) r e v =
     })
     (λ y. refl) e (ap (λ l. codes "state " ++ l) (named_is (type_text t) x.name))
 
-pub into_piece : {actor : Bool} {d : ℕ} {c c' : Counts} {m : List Marked} {i : IntoTree} → IntoRule actor d c c' m i → AllValid m
-    → Piece {X = IntoKept actor d c c' i} (λ y. y.marked) m (into_text i) Apart
+pub into_piece : {home : RoutineKind} {d : ℕ} {c c' : Counts} {m : List Marked} {i : IntoTree} → IntoRule home d c c' m i → AllValid m
+    → Piece {X = IntoKept home d c c' i} (λ y. y.marked) m (into_text i) Apart
 into_piece (declared x kept of s r e) v = into_by x kept of s r e (subst AllValid e v)
 
 -- waits
@@ -102,19 +103,19 @@ operand_piece (wait_next p q r of rule e) v =
     (λ y. record { marked = _; tree = _; rule = wait_next y.0 y.1.0 y.1.1.1 y.1.1.0.marked y.1.1.0.rule refl; like = y.1.1.0.like; some = omega arith })
     (λ y. refl) e refl
 
-pub record WaitKept (actor : Bool) (d : ℕ) (c c' : Counts) (w : WaitTree) : Type 0 where
+pub record WaitKept (home : RoutineKind) (d : ℕ) (c c' : Counts) (w : WaitTree) : Type 0 where
   pub marked : List Marked
   pub tree : WaitTree
-  pub rule : WaitingRule actor d c c' marked tree
+  pub rule : WaitingRule home d c c' marked tree
   pub like : placeless_wait tree ≡ placeless_wait w
   pub some : 0 < length marked
 
 wait_text : (i w e : List ℕ) → i ++ codes " = " ++ w ++ e ++ codes ")" ≡ i ++ (32 ∷ (61 ∷ (32 ∷ (w ++ (e ++ codes ")")))))
 wait_text i w e = simp append_assoc refl
 
-pub waiting_piece : {actor : Bool} {d : ℕ} {c c' : Counts} {m : List Marked} {w : WaitTree} → WaitingRule actor d c c' m w → AllValid m
-    → Piece {X = WaitKept actor d c c' w} (λ y. y.marked) m (waiting_text w) Apart
-waiting_piece {actor} {d} {c} (plain_wait {next = next} {e = t} r) v =
+pub waiting_piece : {home : RoutineKind} {d : ℕ} {c c' : Counts} {m : List Marked} {w : WaitTree} → WaitingRule home d c c' m w → AllValid m
+    → Piece {X = WaitKept home d c c' w} (λ y. y.marked) m (waiting_text w) Apart
+waiting_piece {home} {d} {c} (plain_wait {next = next} {e = t} r) v =
     as_rule (operand_piece r v)
     (λ y. record { marked = y.marked; tree = _; rule = plain_wait y.rule; like = λ i. record { into = None; next = next; operand = y.like i }; some = y.some })
     (λ y. refl) refl (append_assoc (wait_word next) (expr_text t) (codes ")"))
@@ -245,8 +246,8 @@ assign_piece (down {xs = xs} at p path r e st) v =
     })
     (λ y. refl) e refl
 
-pub init_piece : {actor : Bool} {d : ℕ} {c c' : Counts} {m : List Marked} {at : Place} {rest body : Body} → InitRule actor d c c' m at rest body → AllValid m
-    → Piece {X = PutKept (InitRule actor d c c') rest body} (λ y. y.marked) m (part_text body) Apart
+pub init_piece : {home : RoutineKind} {d : ℕ} {c c' : Counts} {m : List Marked} {at : Place} {rest body : Body} → InitRule home d c c' m at rest body → AllValid m
+    → Piece {X = PutKept (InitRule home d c c') rest body} (λ y. y.marked) m (part_text body) Apart
 init_piece (declare {i = i} at r st) v =
     as_rule (into_piece r v)
     (λ y. record {
@@ -284,7 +285,7 @@ assign_some (minus at p path value r s e st) = starts_some _ at st
 assign_some (up at p path r e st) = starts_some _ at st
 assign_some (down at p path r e st) = starts_some _ at st
 
-pub init_some_in : {actor : Bool} {d : ℕ} {c c' : Counts} {m : List Marked} {at : Place} {rest body : Body} → InitRule actor d c c' m at rest body → 0 < length m
+pub init_some_in : {home : RoutineKind} {d : ℕ} {c c' : Counts} {m : List Marked} {at : Place} {rest body : Body} → InitRule home d c c' m at rest body → 0 < length m
 init_some_in (declare at r st) = starts_some _ at st
 init_some_in (declare_value at p left value r s e st) = starts_some _ at st
 init_some_in (change at r) = assign_some r
@@ -304,10 +305,10 @@ stated c d some has p = begun (Statement (suc c.statements)) (λ x. begin_some (
 pub valid_stated : (c : Counts) (d : ℕ) (xs : List Marked) → AllValid (begin_statement c d xs) → AllValid xs
 valid_stated c d xs v = valid_begun (Node d) xs (valid_begun (Statement (suc c.statements)) (begin (Node d) xs) v)
 
-pub init_part_piece : {actor : Bool} {d : ℕ} {c c' : Counts} {m : List Marked} {body : Body} → InitPart actor d c c' m body → AllValid m
-    → Piece {X = PartKept (InitPart actor d c c') body} (λ y. y.marked) m (part_text body) Apart
+pub init_part_piece : {home : RoutineKind} {d : ℕ} {c c' : Counts} {m : List Marked} {body : Body} → InitPart home d c c' m body → AllValid m
+    → Piece {X = PartKept (InitPart home d c c') body} (λ y. y.marked) m (part_text body) Apart
 init_part_piece no_init v = as_rule nothing (λ y. record { marked = _; tree = _; rule = no_init; like = refl }) (λ y. refl) refl refl
-init_part_piece {actor} {d} {c} (some_init at xs r e) v =
+init_part_piece {home} {d} {c} (some_init at xs r e) v =
     as_rule (stated c d (λ y. y.some) (init_some_in r) (init_piece r (valid_stated c d xs (subst AllValid e v))))
     (λ y. record { marked = _; tree = _; rule = some_init y.at y.marked (y.rule End) refl; like = y.like End refl }) (λ y. refl) e refl
 
@@ -329,3 +330,15 @@ pub maybe_piece : {d : ℕ} {m : List Marked} {t : Option ExprTree} {w : List �
     → Piece {X = MaybeKept d t} (λ y. y.marked) m (maybe_text w t) Apart
 maybe_piece g no_expr v = as_rule nothing (λ y. record { marked = _; tree = _; rule = no_expr; like = refl }) (λ y. refl) refl refl
 maybe_piece g (some_expr r) v = as_rule (behind g (expr_piece r v)) (λ y. record { marked = y.marked; tree = _; rule = some_expr y.rule; like = ap Some y.like }) (λ y. refl) refl refl
+
+-- what a `return` gives
+pub record ReturnedKept (home : RoutineKind) (d : ℕ) (t : Option ExprTree) : Type 0 where
+  pub marked : List Marked
+  pub tree : Option ExprTree
+  pub rule : ReturnedRule home d marked tree
+  pub like : option_map placeless_expr tree ≡ option_map placeless_expr t
+
+pub returned_piece : {home : RoutineKind} {d : ℕ} {m : List Marked} {t : Option ExprTree} {w : List ℕ} → Gap w → ReturnedRule home d m t → AllValid m
+    → Piece {X = ReturnedKept home d t} (λ y. y.marked) m (maybe_text w t) Apart
+returned_piece g (no_value may) v = as_rule nothing (λ y. record { marked = _; tree = _; rule = no_value may; like = refl }) (λ y. refl) refl refl
+returned_piece g (something r) v = as_rule (behind g (expr_piece r v)) (λ y. record { marked = y.marked; tree = _; rule = something y.rule; like = ap Some y.like }) (λ y. refl) refl refl

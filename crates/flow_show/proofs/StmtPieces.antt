@@ -6,6 +6,7 @@ use Rattle.std.specs.declared.option.Option.TheVariants.{None, Some}
 use Rattle.flow_base.specs.declared.place.Place.{Place}
 use Rattle.flow_tree.specs.declared.token.Word.TheVariants as word
 use Rattle.flow_tree.specs.declared.token.Sign.TheVariants as sign
+use Rattle.flow_tree.specs.declared.decl.RoutineKind.{RoutineKind}
 use Rattle.flow_tree.specs.Tree.{ExprTree}
 use Rattle.flow_tree.specs.Body.{Body, End, BlockStmt, IfStmt, IfElseStmt, WhileStmt, ForStmt, LoopStmt, BreakStmt, ContinueStmt, ReturnStmt, ThrowStmt, TryStmt, ChooseStmt, CallStmt, WaitStmt, Branches, MoreBranches}
 use Rattle.flow_tree.specs.GrammarToken.{Node, Branch, Marked}
@@ -16,7 +17,7 @@ use Rattle.flow_show.proofs.Going.{Piece, Any, all_parts, parts_cat, nothing, bo
 use Rattle.flow_show.proofs.TokenPieces.{Apart, name_piece, word_piece, sign_piece, open_round_ends, close_round_ends, open_curly_ends, close_curly_ends, semicolon_ends, space_ends}
 use Rattle.flow_show.proofs.Valid.{AllValid, valid_head, valid_tail, valid_left, valid_right}
 use Rattle.flow_show.proofs.ExprPieces.{some_in, expr_piece, args_piece, closing}
-use Rattle.flow_show.proofs.PartPieces.{first_at, starts, starts_some, waiting_piece, path_piece, init_piece, stated, valid_stated, init_part_piece, step_part_piece, maybe_piece}
+use Rattle.flow_show.proofs.PartPieces.{first_at, starts, starts_some, waiting_piece, path_piece, init_piece, stated, valid_stated, init_part_piece, step_part_piece, maybe_piece, returned_piece}
 
 -- signs behind which anything may stand
 pub sign_open : (p : Place) → Piece {X = Place} (λ x. sign_at sign.OpenRound x ∷ []) (sign_at sign.OpenRound p ∷ []) (40 ∷ []) Any
@@ -45,44 +46,44 @@ in_braces k p q inner = both (curly_open p) (behind (blank 10 refl) (both inner 
 
 -- what the new tokens put before a body
 
-pub record PlainKept (actor : Bool) (d : ℕ) (c c' : Counts) (rest body : Body) : Type 0 where
+pub record PlainKept (home : RoutineKind) (d : ℕ) (c c' : Counts) (rest body : Body) : Type 0 where
   pub marked : List Marked
   pub at : Place
   pub make : Body → Body
   pub ends : Bool
-  pub rule : (r : Body) → PlainRule actor d c c' marked at r (make r) ends
+  pub rule : (r : Body) → PlainRule home d c c' marked at r (make r) ends
   pub like : (r : Body) → placeless_body r ≡ placeless_body rest → placeless_body (make r) ≡ placeless_body body
   pub some : 0 < length marked
 
-pub record StmtKept (actor : Bool) (d : ℕ) (c c' : Counts) (rest body : Body) : Type 0 where
+pub record StmtKept (home : RoutineKind) (d : ℕ) (c c' : Counts) (rest body : Body) : Type 0 where
   pub marked : List Marked
   pub make : Body → Body
   pub ends : Bool
-  pub rule : (r : Body) → StmtRule actor d c c' marked r (make r) ends
+  pub rule : (r : Body) → StmtRule home d c c' marked r (make r) ends
   pub like : (r : Body) → placeless_body r ≡ placeless_body rest → placeless_body (make r) ≡ placeless_body body
 
-pub record BlockKept (actor : Bool) (d : ℕ) (c c' : Counts) (body : Body) : Type 0 where
+pub record BlockKept (home : RoutineKind) (d : ℕ) (c c' : Counts) (body : Body) : Type 0 where
   pub marked : List Marked
   pub tree : Body
-  pub rule : BlockRule actor d c c' marked tree
+  pub rule : BlockRule home d c c' marked tree
   pub like : placeless_body tree ≡ placeless_body body
 
-pub record StmtsKept (actor : Bool) (d : ℕ) (c c' : Counts) (body : Body) : Type 0 where
+pub record StmtsKept (home : RoutineKind) (d : ℕ) (c c' : Counts) (body : Body) : Type 0 where
   pub marked : List Marked
   pub tree : Body
-  pub rule : StmtsRule actor d c c' marked tree
+  pub rule : StmtsRule home d c c' marked tree
   pub like : placeless_body tree ≡ placeless_body body
 
-pub record WhensKept (actor : Bool) (d n : ℕ) (c c' : Counts) (bs : Branches) : Type 0 where
+pub record WhensKept (home : RoutineKind) (d n : ℕ) (c c' : Counts) (bs : Branches) : Type 0 where
   pub marked : List Marked
   pub tree : Branches
-  pub rule : WhensRule actor d n c c' marked tree
+  pub rule : WhensRule home d n c c' marked tree
   pub like : placeless_branches tree ≡ placeless_branches bs
 
-pub record WhenKept (actor : Bool) (d n : ℕ) (c c' : Counts) (rest bs : Branches) : Type 0 where
+pub record WhenKept (home : RoutineKind) (d n : ℕ) (c c' : Counts) (rest bs : Branches) : Type 0 where
   pub marked : List Marked
   pub make : Branches → Branches
-  pub rule : (r : Branches) → WhenRule actor d n c c' marked r (make r)
+  pub rule : (r : Branches) → WhenRule home d n c c' marked r (make r)
   pub like : (r : Branches) → placeless_branches r ≡ placeless_branches rest → placeless_branches (make r) ≡ placeless_branches bs
 
 -- a statement's own text, which the text of what follows comes behind
@@ -125,15 +126,15 @@ with_block k b = simp append_assoc refl
 with_choose : (k : ℕ) (w v : List ℕ) → line k (codes "choose {") ++ (w ++ v) ++ line k (codes "}") ≡ line k (codes "choose " ++ (123 ∷ (10 ∷ (w ++ (v ++ (indent k ++ 125 ∷ []))))))
 with_choose k w v = simp append_assoc refl
 
-throw_apart : (t : Option ExprTree) (rest : List ℕ) → Apart (maybe_text (codes " ") t ++ (59 ∷ rest))
-throw_apart None rest = refl
-throw_apart (Some t) rest = refl
+maybe_apart : (t : Option ExprTree) (rest : List ℕ) → Apart (maybe_text (codes " ") t ++ (59 ∷ rest))
+maybe_apart None rest = refl
+maybe_apart (Some t) rest = refl
 
 ended : (p e : List ℕ) → p ++ codes "(" ++ e ++ codes ")" ++ codes ";" ≡ p ++ (40 ∷ (e ++ (41 ∷ (59 ∷ []))))
 ended p e = simp append_assoc refl
 
 -- the line of a change or a declaration
-init_text : {actor : Bool} {d : ℕ} {c c' : Counts} {m : List Marked} {at : Place} {rest body : Body} (k : ℕ) → InitRule actor d c c' m at rest body
+init_text : {home : RoutineKind} {d : ℕ} {c c' : Counts} {m : List Marked} {at : Place} {rest body : Body} (k : ℕ) → InitRule home d c c' m at rest body
     → body_text k body ≡ line k (part_text body ++ codes ";") ++ body_text k rest
 init_text k (declare at r st) = refl
 init_text k (declare_value at p left value r s e st) = refl
@@ -143,7 +144,7 @@ init_text k (change at (minus at' p path value r s e st)) = refl
 init_text k (change at (up at' p path r e st)) = refl
 init_text k (change at (down at' p path r e st)) = refl
 
-pub plain_some : {actor : Bool} {d : ℕ} {c c' : Counts} {m : List Marked} {at : Place} {rest body : Body} {ends : Bool} → PlainRule actor d c c' m at rest body ends → 0 < length m
+pub plain_some : {home : RoutineKind} {d : ℕ} {c c' : Counts} {m : List Marked} {at : Place} {rest body : Body} {ends : Bool} → PlainRule home d c c' m at rest body ends → 0 < length m
 plain_some (if_stmt at p q test body r b e) = some_in [] _ _ e
 plain_some (if_else_stmt at p q s test body other r b o e) = some_in [] _ _ e
 plain_some (while_stmt at p q test body r b e) = some_in [] _ _ e
@@ -159,12 +160,12 @@ plain_some (init_stmt at p xs r e) = some_in xs _ _ e
 plain_some (wait_stmt at p xs r e st) = starts_some _ at st
 plain_some (call_stmt at p q r path args a b e st) = starts_some _ at st
 
-block_some : {actor : Bool} {d : ℕ} {c c' : Counts} {m : List Marked} {body : Body} → BlockRule actor d c c' m body → 0 < length m
+block_some : {home : RoutineKind} {d : ℕ} {c c' : Counts} {m : List Marked} {body : Body} → BlockRule home d c c' m body → 0 < length m
 block_some (braces p q xs r e) = some_in [] _ _ e
 
 mutual
-  pub plain_piece : {actor : Bool} {d : ℕ} {c c' : Counts} {m : List Marked} {at : Place} {rest body : Body} {ends : Bool} (k : ℕ) → PlainRule actor d c c' m at rest body ends → AllValid m
-      → Own {X = PlainKept actor d c c' rest body} (λ y. y.marked) m k rest body
+  pub plain_piece : {home : RoutineKind} {d : ℕ} {c c' : Counts} {m : List Marked} {at : Place} {rest body : Body} {ends : Bool} (k : ℕ) → PlainRule home d c c' m at rest body ends → AllValid m
+      → Own {X = PlainKept home d c c' rest body} (λ y. y.marked) m k rest body
   plain_piece k (if_stmt {body1 = b1} {e = t} at p q test body r b e) v =
       let a = valid_tail (valid_tail (subst AllValid e v)) in
       record {
@@ -290,15 +291,15 @@ mutual
         own = _;
         text = refl;
         piece = as_rule
-            (lined k (both (word_piece [] word.Return at) (spaced (both (expr_piece r (valid_left value _ (valid_tail (subst AllValid e v)))) (sign_end p) (λ rest g. refl))) (λ rest g. refl))
-            (λ rest. tt))
+            (lined k (both (word_piece [] word.Return at) (both (returned_piece (blank 32 refl) r (valid_left value _ (valid_tail (subst AllValid e v)))) (sign_end p) (λ rest g. refl))
+            (λ rest g. subst Apart (sym (append_assoc (maybe_text (codes " ") t) (59 ∷ []) rest)) (maybe_apart t rest))) (λ rest. tt))
             (λ y. record {
               marked = _;
               at = y.0;
-              make = λ r. ReturnStmt y.0 (Some y.1.0.tree) r;
+              make = λ r. ReturnStmt y.0 y.1.0.tree r;
               ends = false;
               rule = λ r. return_stmt y.0 y.1.1 y.1.0.marked y.1.0.rule refl;
-              like = λ r h. ap₂ (λ x. ReturnStmt first_place (Some x)) y.1.0.like h;
+              like = λ r h. ap₂ (ReturnStmt first_place) y.1.0.like h;
               some = omega arith;
             })
             (λ y. refl) e refl;
@@ -309,7 +310,7 @@ mutual
         text = refl;
         piece = as_rule
             (lined k (both (word_piece [] word.Throw at) (both (maybe_piece (blank 32 refl) r (valid_left value _ (valid_tail (subst AllValid e v)))) (sign_end p) (λ rest g. refl))
-            (λ rest g. subst Apart (sym (append_assoc (maybe_text (codes " ") t) (59 ∷ []) rest)) (throw_apart t rest))) (λ rest. tt))
+            (λ rest g. subst Apart (sym (append_assoc (maybe_text (codes " ") t) (59 ∷ []) rest)) (maybe_apart t rest))) (λ rest. tt))
             (λ y. record {
               marked = _;
               at = y.0;
@@ -421,8 +422,8 @@ mutual
             (λ y. refl) e (ap (line k) (ended (path_text xs) (args_text ts)));
       }
 
-  pub stmt_piece : {actor : Bool} {d : ℕ} {c c' : Counts} {m : List Marked} {rest body : Body} {ends : Bool} (k : ℕ) → StmtRule actor d c c' m rest body ends → AllValid m
-      → Own {X = StmtKept actor d c c' rest body} (λ y. y.marked) m k rest body
+  pub stmt_piece : {home : RoutineKind} {d : ℕ} {c c' : Counts} {m : List Marked} {rest body : Body} {ends : Bool} (k : ℕ) → StmtRule home d c c' m rest body ends → AllValid m
+      → Own {X = StmtKept home d c c' rest body} (λ y. y.marked) m k rest body
   stmt_piece {d = d} {c = c} k (block_stmt {inner = b1} at xs b st e) v =
       record {
         own = _;
@@ -446,16 +447,16 @@ mutual
             (λ y. record { marked = _; make = y.make; ends = y.ends; rule = λ r. plain_stmt y.at y.marked (y.rule r) refl; like = y.like }) (λ y. refl) e refl;
       }
 
-  pub block_piece : {actor : Bool} {d : ℕ} {c c' : Counts} {m : List Marked} {body : Body} (k : ℕ) → BlockRule actor d c c' m body → AllValid m
-      → Piece {X = BlockKept actor d c c' body} (λ y. y.marked) m (braced k (body_text (suc k) body)) Any
+  pub block_piece : {home : RoutineKind} {d : ℕ} {c c' : Counts} {m : List Marked} {body : Body} (k : ℕ) → BlockRule home d c c' m body → AllValid m
+      → Piece {X = BlockKept home d c c' body} (λ y. y.marked) m (braced k (body_text (suc k) body)) Any
   block_piece k (braces p q xs r e) v =
       as_rule (in_braces k p q (stmts_piece (suc k) r (valid_left xs _ (valid_tail (subst AllValid e v)))))
       (λ y. record { marked = _; tree = y.1.0.tree; rule = braces y.0 y.1.1 y.1.0.marked y.1.0.rule refl; like = y.1.0.like }) (λ y. refl) e refl
 
-  pub body_piece : {actor : Bool} {d : ℕ} {c c' : Counts} {m : List Marked} {body : Body} {ends : Bool} (k : ℕ) → BodyRule actor d c c' m body ends → AllValid m
-      → Piece {X = BlockKept actor d c c' body} (λ y. y.marked) m (braced k (body_text (suc k) body)) Any
+  pub body_piece : {home : RoutineKind} {d : ℕ} {c c' : Counts} {m : List Marked} {body : Body} {ends : Bool} (k : ℕ) → BodyRule home d c c' m body ends → AllValid m
+      → Piece {X = BlockKept home d c c' body} (λ y. y.marked) m (braced k (body_text (suc k) body)) Any
   body_piece k (block_body b) v = block_piece k b v
-  body_piece {actor} {d} {c} {c'} k (one_body at xs r e) v =
+  body_piece {home} {d} {c} {c'} k (one_body at xs r e) v =
       let a = plain_piece (suc k) r (valid_stated c d xs (subst AllValid e v)) in
       as_rule (reparted (begin_statement c d xs) (one_body_parts (begin_statement c d xs) first_place first_place)
       (in_braces k first_place first_place (stated c d (λ y. y.some) (plain_some r) a.piece)))
@@ -467,8 +468,8 @@ mutual
       })
       (λ y. refl) e (ap (braced k) (a.text ∙ append-nil a.own))
 
-  pub stmts_piece : {actor : Bool} {d : ℕ} {c c' : Counts} {m : List Marked} {body : Body} (k : ℕ) → StmtsRule actor d c c' m body → AllValid m
-      → Piece {X = StmtsKept actor d c c' body} (λ y. y.marked) m (body_text k body) Any
+  pub stmts_piece : {home : RoutineKind} {d : ℕ} {c c' : Counts} {m : List Marked} {body : Body} (k : ℕ) → StmtsRule home d c c' m body → AllValid m
+      → Piece {X = StmtsKept home d c c' body} (λ y. y.marked) m (body_text k body) Any
   stmts_piece k no_stmts v = as_rule nothing (λ y. record { marked = _; tree = _; rule = no_stmts; like = refl }) (λ y. refl) refl refl
   stmts_piece k (more_stmts first more s r e) v =
       let w = subst AllValid e v in
@@ -476,8 +477,8 @@ mutual
       as_rule (both a.piece (stmts_piece k r (valid_right first more w)) (λ rest g. tt))
       (λ y. record { marked = _; tree = y.0.make y.1.tree; rule = more_stmts y.0.marked y.1.marked (y.0.rule y.1.tree) y.1.rule refl; like = y.0.like y.1.tree y.1.like }) (λ y. refl) e a.text
 
-  pub whens_piece : {actor : Bool} {d n : ℕ} {c c' : Counts} {m : List Marked} {bs : Branches} (k : ℕ) → WhensRule actor d n c c' m bs → AllValid m
-      → Piece {X = WhensKept actor d n c c' bs} (λ y. y.marked) m (branches_text k bs) Any
+  pub whens_piece : {home : RoutineKind} {d n : ℕ} {c c' : Counts} {m : List Marked} {bs : Branches} (k : ℕ) → WhensRule home d n c c' m bs → AllValid m
+      → Piece {X = WhensKept home d n c c' bs} (λ y. y.marked) m (branches_text k bs) Any
   whens_piece k no_whens v = as_rule nothing (λ y. record { marked = _; tree = _; rule = no_whens; like = refl }) (λ y. refl) refl refl
   whens_piece k (more_whens first more s r e) v =
       let w = subst AllValid e v in
@@ -485,8 +486,8 @@ mutual
       as_rule (both a.piece (whens_piece k r (valid_right first more w)) (λ rest g. tt))
       (λ y. record { marked = _; tree = y.0.make y.1.tree; rule = more_whens y.0.marked y.1.marked (y.0.rule y.1.tree) y.1.rule refl; like = y.0.like y.1.tree y.1.like }) (λ y. refl) e a.text
 
-  pub when_piece : {actor : Bool} {d n : ℕ} {c c' : Counts} {m : List Marked} {rest bs : Branches} (k : ℕ) → WhenRule actor d n c c' m rest bs → AllValid m
-      → OwnBranch {X = WhenKept actor d n c c' rest bs} (λ y. y.marked) m k rest bs
+  pub when_piece : {home : RoutineKind} {d n : ℕ} {c c' : Counts} {m : List Marked} {rest bs : Branches} (k : ℕ) → WhenRule home d n c c' m rest bs → AllValid m
+      → OwnBranch {X = WhenKept home d n c c' rest bs} (λ y. y.marked) m k rest bs
   when_piece {d = d} {n = n} k (branch {w = w} {inner = b1} at p q xs body r b e) v =
       let a = valid_tail (valid_tail (subst AllValid e v)) in
       record {

@@ -11,7 +11,7 @@ use Rattle.flow_tree.specs.declared.token.Token.TheVariants as token
 use Rattle.flow_tree.specs.declared.token.Token.TheVariants.{Name, Number, Text}
 use Rattle.flow_tree.specs.declared.token.Word as words
 use Rattle.flow_tree.specs.declared.token.Sign as signs
-use Rattle.flow_tree.specs.declared.token.Sign.TheVariants.{OpenRound, CloseRound, OpenCurly, CloseCurly, Less, Greater, Comma, Semicolon, Dot, Equal, NotEqual, LessEqual, GreaterEqual, AndAnd, OrOr, Not, Minus, PlusAssign, MinusAssign, PlusPlus, MinusMinus}
+use Rattle.flow_tree.specs.declared.token.Sign.TheVariants.{OpenRound, CloseRound, OpenCurly, CloseCurly, OpenSquare, CloseSquare, Less, Greater, Comma, Semicolon, Dot, Equal, NotEqual, LessEqual, GreaterEqual, AndAnd, OrOr, Not, Minus, PlusAssign, MinusAssign, PlusPlus, MinusMinus}
 use Rattle.flow_tree.specs.Spelling.{word_bytes, sign_bytes, begins_gap}
 use Rattle.flow_tree.specs.Lexing.{TokenAt}
 use Rattle.flow_tree.specs.GrammarToken.{Part, opens}
@@ -137,6 +137,14 @@ open_curly_ends (c ∷ w) = ends_before OpenCurly 123 c w refl refl refl refl
 pub close_curly_ends : (rest : List ℕ) → Ends CloseCurly rest
 close_curly_ends [] = at_end CloseCurly 125 refl refl refl
 close_curly_ends (c ∷ w) = ends_before CloseCurly 125 c w refl refl refl refl
+
+pub open_square_ends : (rest : List ℕ) → Ends OpenSquare rest
+open_square_ends [] = at_end OpenSquare 91 refl refl refl
+open_square_ends (c ∷ w) = ends_before OpenSquare 91 c w refl refl refl refl
+
+pub close_square_ends : (rest : List ℕ) → Ends CloseSquare rest
+close_square_ends [] = at_end CloseSquare 93 refl refl refl
+close_square_ends (c ∷ w) = ends_before CloseSquare 93 c w refl refl refl refl
 
 pub comma_ends : (rest : List ℕ) → Ends Comma rest
 comma_ends [] = at_end Comma 44 refl refl refl

@@ -10,12 +10,12 @@ use flow_tree::decl::Program;
 use flow_tree::token::Tokens;
 use std::alloc::Global;
 
-/// A record, a function of two parameters, and an actor.
+/// A record, a function of two parameters, an actor, and one that gives nothing.
 const PROGRAM: &[u8] =
-    b"struct A{int x;FutureStream<B>y;};Error f(PromiseStream<Void>a,Void b){}\nACTOR Future<Void>main(int p){if(p==0)trace(\"a\\n\");return Void();}";
+    b"struct A{int x;FutureStream<B>y;};Error f(PromiseStream<Void>a,Void b){}\nACTOR Future<Void>main(int p){if(p==0)trace(\"a\\n\");return Void();}ACTOR void g(vector<A>v){if(v [ 0 ].x==1)return;}";
 
 const LINES: &[u8] =
-    b"struct A {\n    int x;\n    FutureStream<B> y;\n};\nError f(PromiseStream<Void> a, Void b) {\n}\nACTOR Future<Void> main(int p) {\n    if (p == 0) {\n        trace(\"a\\n\");\n    }\n    return Void();\n}\n";
+    b"struct A {\n    int x;\n    FutureStream<B> y;\n};\nError f(PromiseStream<Void> a, Void b) {\n}\nACTOR Future<Void> main(int p) {\n    if (p == 0) {\n        trace(\"a\\n\");\n    }\n    return Void();\n}\nACTOR void g(vector<A> v) {\n    if (v[0].x == 1) {\n        return;\n    }\n}\n";
 
 fn writes_all_lines(alloc: Global, program: &Program) -> bool {
     let mut out = MemSink::new(alloc, Vec::new(alloc));

@@ -6,7 +6,7 @@ use flow_tree::expr::Expr;
 use flow_tree::fault::Rule;
 use std::alloc::Global;
 
-const LEVELS_READ: [Read; 13] = [
+const LEVELS_READ: [Read; 18] = [
     ("1 - 2 - 2", 1, ("[-[-12]2]", 5)),
     ("1 + 2 * 2", 1, ("[+1[*22]]", 5)),
     ("1 * 2 + 2", 1, ("[+[*12]2]", 5)),
@@ -28,6 +28,15 @@ const LEVELS_READ: [Read; 13] = [
     ("a ( ) . a ( Void ( ) , true )", 1, ("[method[call]vb]", 12)),
     ("a a", 1, ("a", 1)),
     ("( a ) ( a )", 1, ("(a)", 3)),
+    ("a [ 1 ]", 1, ("[ata1]", 4)),
+    (
+        "a . a [ 1 ] . a ( ) [ 2 ]",
+        1,
+        ("[at[method[at[.a]1]]2]", 13),
+    ),
+    ("- a [ 1 ] * 2", 1, ("[*[-[ata1]]2]", 7)),
+    ("1 [ true ]", 1, ("[at1b]", 4)),
+    ("( a ) [ a [ a + 1 ] ]", 1, ("[at(a)[ata[+a1]]]", 11)),
 ];
 
 fn are_levels_read(alloc: Global) -> bool {
@@ -39,7 +48,7 @@ fn reads_levels(rt: HostRuntime) {
     assert!(rt; are_levels_read(rt.alloc()));
 }
 
-const PLACES_REFUSED: [Refused; 15] = [
+const PLACES_REFUSED: [Refused; 20] = [
     ("", 1, (Rule::S(5), 0)),
     (";", 64, (Rule::S(5), 0)),
     ("1 +", 1, (Rule::S(5), 2)),
@@ -55,6 +64,11 @@ const PLACES_REFUSED: [Refused; 15] = [
     ("- ;", 64, (Rule::S(5), 1)),
     ("( Void", 64, (Rule::L(5), 1)),
     ("a ( 1 )", 64, (Rule::L(5), 2)),
+    ("a [ ]", 1, (Rule::S(5), 2)),
+    ("a [ 1 )", 1, (Rule::S(5), 3)),
+    ("a [ 1", 1, (Rule::S(5), 3)),
+    ("[ 1 ]", 1, (Rule::S(5), 0)),
+    ("a [ ;", 64, (Rule::L(5), 1)),
 ];
 
 const PLACES_READ: [Read; 2] = [("a", 64, ("a", 1)), ("a ( )", 64, ("[call]", 3))];
@@ -73,7 +87,7 @@ fn refuses_places(rt: HostRuntime) {
     assert!(rt; are_places_read(rt.alloc()));
 }
 
-const DEEP_READ: [Read; 13] = [
+const DEEP_READ: [Read; 15] = [
     ("( 1 )", 63, ("(1)", 3)),
     ("a ( 1 , 2 )", 63, ("[call12]", 6)),
     ("a ( 1 , ! a )", 62, ("[call1[!a]]", 7)),
@@ -87,9 +101,11 @@ const DEEP_READ: [Read; 13] = [
     ("a + ( 1 )", 62, ("[+a(1)]", 5)),
     ("Void ( )", 64, ("v", 3)),
     ("false", 64, ("b", 1)),
+    ("a [ 1 ]", 63, ("[ata1]", 4)),
+    ("a [ ! a ]", 62, ("[ata[!a]]", 5)),
 ];
 
-const DEEP_REFUSED: [Refused; 11] = [
+const DEEP_REFUSED: [Refused; 13] = [
     ("( 1 )", 64, (Rule::L(5), 1)),
     ("a ( 1 , 2 )", 64, (Rule::L(5), 2)),
     ("a ( 1 , ! a )", 63, (Rule::L(5), 5)),
@@ -101,6 +117,8 @@ const DEEP_REFUSED: [Refused; 11] = [
     ("- 1", 64, (Rule::L(5), 1)),
     ("- - 1", 63, (Rule::L(5), 2)),
     ("a + ( 1 )", 63, (Rule::L(5), 3)),
+    ("a [ 1 ]", 64, (Rule::L(5), 1)),
+    ("a [ ! a ]", 63, (Rule::L(5), 3)),
 ];
 
 fn are_deep_read(alloc: Global) -> bool {

@@ -67,15 +67,17 @@ fn all_refused(alloc: Global, rows: &[(Nested, u32, (Rule, u32))]) -> Result<boo
     Ok(true)
 }
 
-const CHAINS_ACCEPTED: [(Nested, usize); 5] = [
+const CHAINS_ACCEPTED: [(Nested, usize); 7] = [
     (("1 + ", 61, "1", ""), 123),
     (("a . ", 61, "a", ""), 123),
     (("- ", 61, "a", ""), 62),
     (("a ( ", 61, "1", " )"), 184),
     (("a . a ( ", 61, "1", " )"), 306),
+    (("a [ ", 61, "1", " ]"), 184),
+    (("", 61, "a ", "[ 1 ] "), 184),
 ];
 
-const CHAINS_REFUSED: [(Nested, u32, (Rule, u32)); 8] = [
+const CHAINS_REFUSED: [(Nested, u32, (Rule, u32)); 10] = [
     (("1 + ", 62, "1", ""), 3, (Rule::L(5), 123)),
     (("( ", 62, "Void ( )", ""), 3, (Rule::L(5), 62)),
     (("( ", 61, "Void ;", ""), 3, (Rule::S(5), 62)),
@@ -84,6 +86,8 @@ const CHAINS_REFUSED: [(Nested, u32, (Rule, u32)); 8] = [
     (("a ( ", 61, "1", ""), 3, (Rule::S(5), 123)),
     (("a ( ", 62, "1", ""), 3, (Rule::L(5), 124)),
     (("a . a ( ", 61, "1", " )"), 4, (Rule::L(5), 241)),
+    (("a [ ", 62, "1", ""), 3, (Rule::L(5), 123)),
+    (("", 62, "a ", "[ 1 ] "), 3, (Rule::L(5), 184)),
 ];
 
 fn are_chains_accepted(alloc: Global) -> Result<bool, NoMemory> {

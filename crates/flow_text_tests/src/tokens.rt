@@ -6,7 +6,7 @@ use flow_tree::token::{Sign, Spot, Token, Tokens, Word};
 use std::alloc::Global;
 
 /// Texts, each with its tokens and the end, as line, column and spelling.
-const READ: [(&[u8], &str); 38] = [
+const READ: [(&[u8], &str); 41] = [
     (b"", "1:1 end"),
     (b" ", "1:2 end"),
     (b"\n", "2:1 end"),
@@ -86,6 +86,18 @@ const READ: [(&[u8], &str); 38] = [
     (
         b"1\"2\"3",
         "1:1 number 1  1:2 text 2  1:5 number 3  1:6 end",
+    ),
+    (
+        b"vector<int> v;",
+        "1:1 word vector  1:7 sign <  1:8 word int  1:11 sign >  1:13 name v  1:14 sign ;  1:15 end",
+    ),
+    (
+        b"void Void voids vectors",
+        "1:1 word void  1:6 word Void  1:11 name voids  1:17 name vectors  1:24 end",
+    ),
+    (
+        b"v[0]",
+        "1:1 name v  1:2 sign [  1:3 number 0  1:4 sign ]  1:5 end",
     ),
 ];
 

@@ -41,7 +41,7 @@ fn reads_types(rt: HostRuntime) {
     assert!(rt; are_types_refused(rt.alloc()));
 }
 
-const EVERY_TYPE_READ: [Read; 13] = [
+const EVERY_TYPE_READ: [Read; 14] = [
     ("int", 1, ("int", 1)),
     ("bool ;", 64, ("bool", 1)),
     ("string a", 2, ("string", 1)),
@@ -63,14 +63,18 @@ const EVERY_TYPE_READ: [Read; 13] = [
         60,
         ("[PS [P [FS [F a]]]]", 13),
     ),
+    ("vector < vector < a > >", 1, ("[V [V a]]", 7)),
 ];
 
-const EVERY_TYPE_REFUSED: [Refused; 5] = [
+const EVERY_TYPE_REFUSED: [Refused; 8] = [
     ("wait", 1, (Rule::S(5), 0)),
     ("true", 1, (Rule::S(5), 0)),
     ("Promise", 1, (Rule::S(5), 1)),
     ("Promise < Promise < a >", 1, (Rule::S(5), 6)),
     ("FutureStream < >", 1, (Rule::S(5), 2)),
+    ("void", 1, (Rule::S(5), 0)),
+    ("vector < void >", 1, (Rule::S(5), 2)),
+    ("vector int", 1, (Rule::S(5), 1)),
 ];
 
 fn are_every_type_read(alloc: Global) -> bool {
@@ -87,17 +91,19 @@ fn reads_every_type(rt: HostRuntime) {
     assert!(rt; are_every_type_refused(rt.alloc()));
 }
 
-const DEEP_TYPES_READ: [Read; 4] = [
+const DEEP_TYPES_READ: [Read; 5] = [
     ("Future < int >", 63, ("[F int]", 4)),
     ("FutureStream < int >", 63, ("[FS int]", 4)),
     ("Promise < int >", 63, ("[P int]", 4)),
     ("PromiseStream < int >", 63, ("[PS int]", 4)),
+    ("vector < int >", 63, ("[V int]", 4)),
 ];
 
-const DEEP_TYPES_REFUSED: [Refused; 3] = [
+const DEEP_TYPES_REFUSED: [Refused; 4] = [
     ("FutureStream < int >", 64, (Rule::L(5), 2)),
     ("Promise < int >", 64, (Rule::L(5), 2)),
     ("PromiseStream < int >", 64, (Rule::L(5), 2)),
+    ("vector < int >", 64, (Rule::L(5), 2)),
 ];
 
 fn are_deep_types_read(alloc: Global) -> bool {

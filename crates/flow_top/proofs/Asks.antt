@@ -11,7 +11,7 @@ use Rattle.flow_words.specs.Asked.{Request, asked, request_of, Reads}
 use Rattle.flow_words.specs.declared.asked.WordsFault.{WordsFault}
 use Rattle.flow_words.specs.declared.asked.WordsFault.TheVariants as words
 use Rattle.flow_top.specs.declared.outcome.Answered as told
-use Rattle.flow_top.specs.declared.outcome.Answered.TheVariants.{Usage, ReadFault, OutOfMemory, Refused, NoClasses, NoWorld, LongScript, Passed, Compiled, Formatted}
+use Rattle.flow_top.specs.declared.outcome.Answered.TheVariants.{Usage, ReadFault, OutOfMemory, Refused, NoClasses, NoWorld, LongScript, Passed, Printed, Formatted}
 use Rattle.flow_top.specs.declared.outcome.Outcome.{Outcome}
 use Rattle.flow_top.specs.declared.outcome.Outcome.TheVariants.{Answered}
 use Rattle.flow_top.specs.Requests.{wanted_by, served, request_by, panel_for}
@@ -43,7 +43,7 @@ unasked asks (NoClasses fault) files h = absurd h
 unasked asks (NoWorld fault) files h = absurd h
 unasked asks LongScript files h = absurd h
 unasked asks Passed files h = absurd h
-unasked asks (Compiled classes) files h = absurd h
+unasked asks (Printed classes) files h = absurd h
 unasked asks (Formatted program) files h = absurd h
 
 module _ (handed : List Handed) (q : Request) where
@@ -66,7 +66,7 @@ module _ (handed : List Handed) (q : Request) where
   unserved (NoWorld fault) h = absurd h
   unserved LongScript h = absurd h
   unserved Passed h = absurd h
-  unserved (Compiled classes) h = absurd h
+  unserved (Printed classes) h = absurd h
   unserved (Formatted program) h = absurd h
 
   pub unanswered : (a : told.Answered) (files : FilesSeen) (sink sink' : SinkSeen) (status : ℕ) → NotAttached first a → ReportedTold a sink sink' status
@@ -123,7 +123,7 @@ wordless asks handed (NoClasses fault) h = absurd h
 wordless asks handed (NoWorld fault) h = absurd h
 wordless asks handed LongScript h = absurd h
 wordless asks handed Passed h = absurd h
-wordless asks handed (Compiled classes) h = absurd h
+wordless asks handed (Printed classes) h = absurd h
 wordless asks handed (Formatted program) h = absurd h
 
 pub without_words : (given : List (List ℕ)) (handed : List Handed) (a : told.Answered) (files : FilesSeen) (sink sink' : SinkSeen) (status : ℕ) → NotAsked (asked given) a

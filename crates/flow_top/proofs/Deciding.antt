@@ -23,7 +23,7 @@ use Rattle.flow_lower.specs.Compiled.{Has}
 use Rattle.flow_compile.specs.Right.{IsAccepted}
 use Rattle.flow_worldfile.specs.declared.world.World0.{World0}
 use Rattle.flow_worldfile.specs.Worlds.{IsInRange, seen}
-use Rattle.flow_words.specs.Asked.{Request, RunRequest, format, check, compile, run, exec, bench, shrink, debug}
+use Rattle.flow_words.specs.Asked.{Request, RunRequest, format, check, compile, run, exec, bench, shrink, debug, upgrade}
 use Rattle.flow_top.specs.declared.outcome.Outcome.{Outcome}
 use Rattle.flow_top.specs.declared.outcome.Outcome.TheVariants.{Answered, Shrink}
 use Rattle.flow_top.specs.declared.outcome.ProgramRun.{ProgramRun}
@@ -31,13 +31,13 @@ use Rattle.flow_top.specs.declared.outcome.Runnable.{Runnable}
 use Rattle.flow_top.specs.declared.outcome.Meant.{Meant}
 use Rattle.flow_top.specs.declared.outcome.Meant.TheVariants.{Text, Classes}
 use Rattle.flow_top.specs.declared.outcome.Answered as told
-use Rattle.flow_top.specs.declared.outcome.Answered.TheVariants.{LongScript, Compiled, Passed, Formatted}
+use Rattle.flow_top.specs.declared.outcome.Answered.TheVariants.{LongScript, Printed, Passed, Formatted}
 use Rattle.flow_debug.specs.declared.waits.WaitPlaces.{WaitPlaces}
 use Rattle.flow_top.specs.Debugged.{WaitsOf, WaitsFor}
 use Rattle.flow_top.specs.Requests.{wanted_by, wanted_alone, tells_frames}
 use Rattle.flow_top.specs.Sources.{Source, first_source, world_source, FileText, read_for, names_of}
 use Rattle.flow_top.specs.Outcomes.{refusal_outcome_of, class_outcome_of, heavy_outcome, IsPassing, IsRunBy, of_program, of_class_text, IsMeantBy, IsText, IsOnce, IsAgain, IsFor, run_for, MayRun, MayTell}
-use Rattle.flow_top.specs.Due.{by_rule, lost_local, heavy, HasProgram, unread, formatted, refused, passed, compiled, no_classes, IsRunFor, DueIn, no_world, runs, by_text, in_world}
+use Rattle.flow_top.specs.Due.{by_rule, lost_local, heavy, HasProgram, unread, formatted, refused, passed, compiled, no_classes, upgraded, IsRunFor, DueIn, no_world, runs, by_text, in_world}
 use Rattle.flow_top.specs.Decided.{ReadsFiles, first, then_world, Decided, due, read_fault, no_memory}
 use Rattle.flow_top.specs.Steps.{goes, stops, starves, ends, no_room, HasText, TextRead, is_read, is_unread, starved, JudgesTo, EndsBy, LowersTo, are_classes, is_heavy, no_classes as none_lowered, CompilesTo, RunsTo, WorldOf, is_world, is_none, no_room_for_it}
 use Rattle.flow_top.proofs.Reading.{reads_then, texts_both, names_both, asked_had}
@@ -107,7 +107,7 @@ passing_by {text = text} p e (of_program other c passing has) =
 passing_by p e (of_class_text c answer) = absurd (cc)
 
 -- they are listed
-pub is_listed : (text : List ℕ) (x : Runnable) → CompilesTo text (Ok x) → (p : List ℕ) → EndsBy text (compile p) (Compiled x.classes)
+pub is_listed : (text : List ℕ) (x : Runnable) → CompilesTo text (Ok x) → (p : List ℕ) → EndsBy text (compile p) (Printed x.classes)
 is_listed text x (goes _ is) p = let both = passing_by is.is_text.0 is.is_text.1 is.is_run in ends _ (compiled p is.is_text.0.value x.classes both.0 both.1)
 
 pub unlisted : (text : List ℕ) (o : told.Answered) → CompilesTo text (Err o) → (p : List ℕ) → EndsBy text (compile p) o
@@ -126,11 +126,25 @@ pub classes_run : (text : List ℕ) (c : RawClasses) (w : WaitPlaces) → ClassA
 classes_run text c w answer r = goes _ (record { is_run = of_class_text c answer; is_meant = tt })
 
 pub classes_refused : (text : List ℕ) (fault : ClassFault) (o : told.Answered) → o ≡ class_outcome_of fault → ClassAnswer text (Err fault) → (r : RunRequest) → RunsTo text (exec r) (Err o)
-classes_refused text (class.Form line) o e answer r = subst (λ x. RunsTo text (exec r) (Err x)) (sym e) (stops _ (no_classes r (class.Form line) answer (λ h. cc)))
+classes_refused text (class.Form line) o e answer r = subst (λ x. RunsTo text (exec r) (Err x)) (sym e) (stops _ (no_classes (exec r) (class.Form line) tt answer (λ h. cc)))
 classes_refused text (class.Invalid rule name) o e answer r =
-    subst (λ x. RunsTo text (exec r) (Err x)) (sym e) (stops _ (no_classes r (class.Invalid rule name) answer (λ h. cc)))
-classes_refused text class.TooLarge o e answer r = subst (λ x. RunsTo text (exec r) (Err x)) (sym e) (stops _ (no_classes r class.TooLarge answer (λ h. cc)))
+    subst (λ x. RunsTo text (exec r) (Err x)) (sym e) (stops _ (no_classes (exec r) (class.Invalid rule name) tt answer (λ h. cc)))
+classes_refused text class.TooLarge o e answer r = subst (λ x. RunsTo text (exec r) (Err x)) (sym e) (stops _ (no_classes (exec r) class.TooLarge tt answer (λ h. cc)))
 classes_refused text class.OutOfMemory o e answer r = subst (λ x. RunsTo text (exec r) (Err x)) (sym e) starves
+
+-- or it is written anew
+pub is_upgraded : (text : List ℕ) (c : RawClasses) → ClassAnswer text (Ok c) → (name : List ℕ) → EndsBy text (upgrade name) (Printed c)
+is_upgraded text c answer name = ends _ (upgraded name c answer)
+
+pub not_upgraded : (text : List ℕ) (fault : ClassFault) (o : told.Answered) → o ≡ class_outcome_of fault → ClassAnswer text (Err fault) → (name : List ℕ)
+    → EndsBy text (upgrade name) o
+not_upgraded text (class.Form line) o e answer name =
+    subst (EndsBy text (upgrade name)) (sym e) (ends _ (no_classes (upgrade name) (class.Form line) tt answer (λ h. cc)))
+not_upgraded text (class.Invalid rule which) o e answer name =
+    subst (EndsBy text (upgrade name)) (sym e) (ends _ (no_classes (upgrade name) (class.Invalid rule which) tt answer (λ h. cc)))
+not_upgraded text class.TooLarge o e answer name =
+    subst (EndsBy text (upgrade name)) (sym e) (ends _ (no_classes (upgrade name) class.TooLarge tt answer (λ h. cc)))
+not_upgraded text class.OutOfMemory o e answer name = subst (EndsBy text (upgrade name)) (sym e) no_room
 
 -- an outcome without a run
 pub ended : (text : List ℕ) (q : Request) (o : told.Answered) → EndsBy text q o → RunsTo text q (Err o)
@@ -179,6 +193,7 @@ has_world (exec r) m h e = cc
 has_world (bench clients seed) m h e = cc
 has_world (shrink program world want) m h e = cc
 has_world (debug program world most) m h e = cc
+has_world (upgrade c) m h e = h
 
 module _ (q : Request) (before mid after : FilesSeen) (text : List ℕ) (meant : Meant) (classes : RawClasses) (s : Source) (has : HasText (first_source q) before mid text)
     (is : IsRunFor text q meant classes) (world : world_source q ≡ Some s) (same : mid.content ≡ before.content) where
@@ -238,6 +253,7 @@ may_by (check p) r may is w = may
 may_by (compile p) r may is w = may
 may_by (run x) r may is w = may
 may_by (exec x) r may is w = may
+may_by (upgrade c) r may is w = may
 may_by (bench clients seed) r may is w = may
 may_by (shrink program world want) r may is w = shrink_may (nat_le r.world.script.len SCRIPT_LINES) r may (text_by program world want r.meant is)
 may_by (debug program world most) r may is w = (may, viewed_by program world most r.meant is, w)
@@ -262,6 +278,7 @@ told_for (exec x) a = tt
 told_for (bench clients seed) a = tt
 told_for (shrink program world want) a = tt
 told_for (debug program world most) a = tt
+told_for (upgrade c) a = tt
 
 again : (b : Bool) (r : ProgramRun) → IsAgain (if b then Shrink r else Answered LongScript)
 again true r = tt
@@ -276,6 +293,7 @@ ran_for (exec x) r = tt
 ran_for (bench clients seed) r = tt
 ran_for (shrink program world want) r = again (nat_le r.world.script.len SCRIPT_LINES) r
 ran_for (debug program world most) r = tt
+ran_for (upgrade c) r = tt
 
 pub is_run_for : (q : Request) (r : ProgramRun) (o : Outcome) → o ≡ run_for q r → IsFor q o
 is_run_for q r o e = subst (IsFor q) (sym e) (ran_for q r)
@@ -289,6 +307,7 @@ once (exec x) o e h = h
 once (bench clients seed) o e h = h
 once (shrink program world want) o e h = absurd (cc)
 once (debug program world most) o e h = h
+once (upgrade c) o e h = h
 
 pub many : (q : Request) (want : Want) (o : Outcome) → wanted_alone q ≡ Some want → IsFor q o → IsAgain o
 many (format p) want o e h = absurd (cc)
@@ -299,6 +318,7 @@ many (exec x) want o e h = absurd (cc)
 many (bench clients seed) want o e h = absurd (cc)
 many (shrink program world w) want o e h = h
 many (debug program world most) want o e h = absurd (cc)
+many (upgrade c) want o e h = absurd (cc)
 
 -- and then one monitor is wanted
 pub wants_one : (q : Request) (want : Want) → wanted_alone q ≡ Some want → wanted_by q ≡ want ∷ []
@@ -309,6 +329,7 @@ wants_one (run x) want e = absurd (cc)
 wants_one (exec x) want e = absurd (cc)
 wants_one (bench clients seed) want e = absurd (cc)
 wants_one (debug program world most) want e = absurd (cc)
+wants_one (upgrade c) want e = absurd (cc)
 wants_one (shrink program world w) want e = ap (λ x. x ∷ []) (same e)
   where
     same : {x y : Want} → Some x ≡ Some y → x ≡ y

@@ -5,7 +5,7 @@ use Rattle.flow_words.specs.Asked.{Request}
 use Rattle.flow_top.specs.declared.outcome.Outcome.{Outcome}
 use Rattle.flow_top.specs.declared.outcome.Outcome.TheVariants.{Answered}
 use Rattle.flow_top.specs.Sources.{Source, of_file, generated, first_source, world_source, FileText, read_for, AreTexts}
-use Rattle.flow_top.specs.Due.{DueBy, unread, formatted, refused, passed, compiled, no_classes, IsRefusedBy, by_rule, lost_local, heavy, Due, by_text, in_world}
+use Rattle.flow_top.specs.Due.{DueBy, unread, formatted, refused, passed, compiled, no_classes, upgraded, IsRefusedBy, by_rule, lost_local, heavy, Due, by_text, in_world}
 use Rattle.flow_top.specs.Decided.{due, read_fault, no_memory, no_memory_at_once}
 use Rattle.flow_top.specs.Laws.{MissingProgram, IsWorldless, MissingWorld}
 
@@ -49,7 +49,8 @@ by_worldless text _ _ (formatted p program is) = tt
 by_worldless text _ _ (refused q a judges why) = refused_worldless text a why
 by_worldless text _ _ (passed p program passing) = tt
 by_worldless text _ _ (compiled p program classes passing has) = tt
-by_worldless text _ _ (no_classes r fault answer some) = tt
+by_worldless text _ _ (no_classes q fault has answer some) = tt
+by_worldless text _ _ (upgraded c classes answer) = tt
 
 worldless : (q : Request) (name : List ℕ) (most : ℕ) (content : List ℕ → Content) (o : Outcome) (files : List FileText) → world_source q ≡ Some (of_file name most)
     → content name ≡ Missing → Due (Some q) o files → AreTexts content files → IsWorldless o

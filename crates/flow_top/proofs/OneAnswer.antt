@@ -29,7 +29,7 @@ use Rattle.flow_front.specs.Verdict.{IsRefused, IsSound, IsLost}
 use Rattle.flow_front.specs.Laws.{OneVerdict}
 use Rattle.flow_lower.specs.Weighing.{first_heavy}
 use Rattle.flow_lower.specs.Compiled.{Has, compiled as compiled_tree}
-use Rattle.flow_words.specs.Asked.{Request, format, check, compile, run, exec, bench, shrink, debug}
+use Rattle.flow_words.specs.Asked.{Request, format, check, compile, run, exec, bench, shrink, debug, upgrade}
 use Rattle.flow_top.specs.declared.outcome.Outcome.{Outcome}
 use Rattle.flow_top.specs.declared.outcome.Outcome.TheVariants.{Answered, Shrink}
 use Rattle.flow_top.specs.declared.outcome.ProgramRun.{ProgramRun}
@@ -39,7 +39,7 @@ use Rattle.flow_top.specs.declared.outcome.Answered as told
 use Rattle.flow_top.specs.declared.outcome.Answered.TheVariants.{Refused, NoClasses, NoWorld, LongScript}
 use Rattle.flow_top.specs.Sources.{Source, of_file, generated, first_source, FileText, read_for, IsOf, AreTexts}
 use Rattle.flow_top.specs.Outcomes.{heavy_outcome, text_of, status_of, IsPassing, IsRunBy, of_program, of_class_text, IsMeantBy, run_for}
-use Rattle.flow_top.specs.Due.{IsRefusedBy, by_rule, lost_local, heavy, HasProgram, DueBy, unread, formatted, refused, passed, compiled, no_classes, DueIn, no_world, runs, Due, usage, by_text, in_world}
+use Rattle.flow_top.specs.Due.{IsRefusedBy, by_rule, lost_local, heavy, HasProgram, HasClassText, DueBy, unread, formatted, refused, passed, compiled, no_classes, upgraded, DueIn, no_world, runs, Due, usage, by_text, in_world}
 use Rattle.flow_top.specs.OneAnswer.{TellsAll, SameMeant, SameRun, SameOutcome, OneAnswer}
 use Rattle.std.specs.Prelude.{nat_le, if◌then◌else◌}
 use Rattle.flow_shrink.specs.declared.shrinking.TheConstants.{SCRIPT_LINES}
@@ -192,7 +192,7 @@ module _ (one : OneClassAnswer) (text : List ℕ) where
       err_tree : {x y : ClassFault} → ◌≡◌ {A = Result RawTree ClassFault} (Err x) (Err y) → x ≡ y
       err_tree h = cc
 
-  read_or_refused : (e : ClassFault) (c : RawClasses) → ClassAnswer text (Err e) → ClassAnswer text (Ok c) → e ≢ class.OutOfMemory → ⊥
+  pub read_or_refused : (e : ClassFault) (c : RawClasses) → ClassAnswer text (Err e) → ClassAnswer text (Ok c) → e ≢ class.OutOfMemory → ⊥
   read_or_refused e c a b m =
       let same = one text (Err e) (Ok c) a b (λ h. m (err_same h)) (λ h. cc) in apart same
     where
@@ -202,7 +202,7 @@ module _ (one : OneClassAnswer) (text : List ℕ) where
       apart : ◌≡◌ {A = Result RawTree ClassFault} (Err e) (Ok (raw_of c)) → ⊥
       apart h = cc
 
-  classes_once : (c d : RawClasses) → ClassAnswer text (Ok c) → ClassAnswer text (Ok d) → raw_of c ≡ raw_of d
+  pub classes_once : (c d : RawClasses) → ClassAnswer text (Ok c) → ClassAnswer text (Ok d) → raw_of c ≡ raw_of d
   classes_once c d a b = tree_same (one text (Ok c) (Ok d) a b (λ h. cc) (λ h. cc))
     where
       tree_same : {x y : RawTree} → ◌≡◌ {A = Result RawTree ClassFault} (Ok x) (Ok y) → x ≡ y
@@ -218,6 +218,7 @@ never_both (exec r) p a b = a
 never_both (bench clients seed) p a b = b
 never_both (shrink program world want) p a b = b
 never_both (debug program world most) p a b = b
+never_both (upgrade name) p a b = a
 
 module _ (one_class : OneClassAnswer) (text : List ℕ) (one : OneVerdict text) (q : Request) where
   run_once : {m n : Meant} {c d : RawClasses} → IsRunBy text m c → IsRunBy text n d → IsMeantBy q m → IsMeantBy q n → SameMeant m n × (raw_of c ≡ raw_of d)
@@ -230,6 +231,18 @@ module _ (one_class : OneClassAnswer) (text : List ℕ) (one : OneVerdict text) 
 same_told : {a b : told.Answered} → a ≡ b → SameOutcome (Answered a) (Answered b)
 same_told e = (ap text_of e, ap status_of e)
 
+-- no request has a program and a class text
+either : (q : Request) → HasProgram q → HasClassText q → ⊥
+either (format name) a b = a
+either (check name) a b = b
+either (compile name) a b = b
+either (run r) a b = b
+either (exec r) a b = a
+either (bench clients seed) a b = b
+either (shrink program world want) a b = b
+either (debug program world most) a b = b
+either (upgrade name) a b = a
+
 -- What is due by the first text.
 module _ (one_class : OneClassAnswer) (text : List ℕ) (one : OneVerdict text) where
   by_once : (q : Request) (o p : Outcome) → DueBy text q o → DueBy text q p → SameOutcome o p
@@ -237,23 +250,36 @@ module _ (one_class : OneClassAnswer) (text : List ℕ) (one : OneVerdict text) 
       let e = one.unread rule other at place u v in same_told (ap₂ (λ r x. Refused (source.Refused r x)) e.0 e.1)
   by_once _ _ _ (unread name rule at u) (formatted _ p is) = absurd (one.read_or_unread p rule at is u)
   by_once _ _ _ (unread name rule at u) (refused _ a judges why) = absurd judges
+  by_once _ _ _ (unread name rule at u) (no_classes _ fault has answer some) = absurd has
   by_once _ _ _ (formatted name p is) (unread _ rule at u) = absurd (one.read_or_unread p rule at is u)
   by_once _ _ _ (formatted name p is) (formatted _ q there) = (ap Canon (one.program p q is there), refl)
   by_once _ _ _ (formatted name p is) (refused _ a judges why) = absurd judges
+  by_once _ _ _ (formatted name p is) (no_classes _ fault has answer some) = absurd has
   by_once _ _ _ (refused _ a judges why) (unread name rule at u) = absurd judges
   by_once _ _ _ (refused _ a judges why) (formatted name p is) = absurd judges
   by_once _ _ _ (refused q a judges why) (refused _ b others also) = same_told (refused_once text one a b why also)
   by_once _ _ _ (refused _ a judges why) (passed name p passing) = absurd (never_passing text one a p why passing)
   by_once _ _ _ (refused _ a judges why) (compiled name p c passing has) = absurd (never_passing text one a p why passing)
-  by_once _ _ _ (refused _ a judges why) (no_classes r fault answer some) = absurd judges
+  by_once _ _ _ (refused q a judges why) (no_classes _ fault has answer some) = absurd (either q judges has)
+  by_once _ _ _ (refused _ a judges why) (upgraded name c answer) = absurd judges
   by_once _ _ _ (passed name p passing) (refused _ a judges why) = absurd (never_passing text one a p why passing)
   by_once _ _ _ (passed name p passing) (passed _ q others) = (refl, refl)
+  by_once _ _ _ (passed name p passing) (no_classes _ fault has answer some) = absurd has
   by_once _ _ _ (compiled name p c passing has) (refused _ a judges why) = absurd (never_passing text one a p why passing)
   by_once _ _ _ (compiled name p c passing has) (compiled _ q d others k) =
       (ap ClassText (same_classes text one p q (raw_of c) (raw_of d) passing others has k), refl)
-  by_once _ _ _ (no_classes r fault answer some) (refused _ a judges why) = absurd judges
-  by_once _ _ _ (no_classes r fault answer some) (no_classes _ other others more) =
+  by_once _ _ _ (compiled name p c passing is) (no_classes _ fault has answer some) = absurd has
+  by_once _ _ _ (no_classes _ fault has answer some) (unread name rule at u) = absurd has
+  by_once _ _ _ (no_classes _ fault has answer some) (formatted name p is) = absurd has
+  by_once _ _ _ (no_classes q fault has answer some) (refused _ a judges why) = absurd (either q judges has)
+  by_once _ _ _ (no_classes _ fault has answer some) (passed name p passing) = absurd has
+  by_once _ _ _ (no_classes _ fault has answer some) (compiled name p c passing is) = absurd has
+  by_once _ _ _ (no_classes q fault has answer some) (no_classes _ other its others more) =
       same_told (ap NoClasses (class_fault_once one_class text fault other answer others some more))
+  by_once _ _ _ (no_classes _ fault has answer some) (upgraded name c others) = absurd (read_or_refused one_class text fault c answer others some)
+  by_once _ _ _ (upgraded name c answer) (refused _ a judges why) = absurd judges
+  by_once _ _ _ (upgraded name c answer) (no_classes _ fault has others some) = absurd (read_or_refused one_class text fault c others answer some)
+  by_once _ _ _ (upgraded name c answer) (upgraded _ d others) = (ap ClassText (classes_once one_class text c d answer others), refl)
 
   -- something is due by it alone, or something is run by it
   never_runs : (q : Request) (o : Outcome) (m : Meant) (c : RawClasses) → DueBy text q o → IsRunBy text m c → IsMeantBy q m → ⊥
@@ -271,10 +297,23 @@ module _ (one_class : OneClassAnswer) (text : List ℕ) (one : OneVerdict text) 
       by_request (bench clients seed) h k = k
       by_request (shrink program world want) h k = k
       by_request (debug program world most) h k = k
+      by_request (upgrade name) h k = h
   never_runs _ _ m c (passed name p passing) is a = a
   never_runs _ _ m c (compiled name p d passing has) is a = a
-  never_runs _ _ _ _ (no_classes r fault answer some) (of_program p c passing has) meant = meant
-  never_runs _ _ _ _ (no_classes r fault answer some) (of_class_text c others) meant = read_or_refused one_class text fault c answer others some
+  never_runs _ _ _ _ (no_classes q fault has answer some) (of_program p c passing is) meant = by_class_text q has meant
+    where
+      by_class_text : (q : Request) → HasClassText q → IsMeantBy q (Text p) → ⊥
+      by_class_text (format name) h k = h
+      by_class_text (check name) h k = h
+      by_class_text (compile name) h k = h
+      by_class_text (run r) h k = h
+      by_class_text (exec r) h k = k
+      by_class_text (bench clients seed) h k = h
+      by_class_text (shrink program world want) h k = h
+      by_class_text (debug program world most) h k = h
+      by_class_text (upgrade name) h k = k
+  never_runs _ _ _ _ (no_classes q fault has answer some) (of_class_text c others) meant = read_or_refused one_class text fault c answer others some
+  never_runs _ _ m c (upgraded name d answer) is a = a
 
 -- What is due by the world's text.
 same_shrink : (r s : ProgramRun) (b c : Bool) → b ≡ c → SameRun r s
@@ -292,6 +331,7 @@ same_run (run x) r s same = same
 same_run (exec x) r s same = same
 same_run (bench clients seed) r s same = (same, refl, refl)
 same_run (debug program world most) r s same = (same, refl)
+same_run (upgrade name) r s same = same
 same_run (shrink program world want) r s same =
     let long : r.world.script.len ≡ s.world.script.len = sym (script_length r.world) ∙ ap (λ (w : World). length w.script) same.world ∙ script_length s.world in
     same_shrink r s _ _ (ap (λ n. nat_le n SCRIPT_LINES) long) same

@@ -19,13 +19,13 @@ use Rattle.flow_staterule.specs.declared.rule.Lost.{Lost}
 use Rattle.flow_front.specs.Verdict.{IsUnread, IsRefused, IsProgram, IsSound, IsLost}
 use Rattle.flow_lower.specs.Weighing.{first_heavy}
 use Rattle.flow_lower.specs.Compiled.{Has}
-use Rattle.flow_words.specs.Asked.{Request, RunRequest, format, check, compile, run, exec}
+use Rattle.flow_words.specs.Asked.{Request, format, check, compile, exec, upgrade}
 use Rattle.flow_top.specs.declared.outcome.Outcome.{Outcome}
 use Rattle.flow_top.specs.declared.outcome.Outcome.TheVariants.{Answered}
 use Rattle.flow_top.specs.declared.outcome.ProgramRun.{ProgramRun}
 use Rattle.flow_top.specs.declared.outcome.Meant.{Meant}
 use Rattle.flow_top.specs.declared.outcome.Answered as told
-use Rattle.flow_top.specs.declared.outcome.Answered.TheVariants.{Usage, Refused, NoClasses, NoWorld, Passed, Compiled, Formatted}
+use Rattle.flow_top.specs.declared.outcome.Answered.TheVariants.{Usage, Refused, NoClasses, NoWorld, Passed, Printed, Formatted}
 use Rattle.flow_top.specs.Requests.{tells_frames}
 use Rattle.flow_top.specs.Sources.{Source, first_source, world_source, FileText, read_for, IsOf}
 use Rattle.flow_top.specs.Outcomes.{heavy_outcome, IsPassing, IsRunBy, IsMeantBy, run_for}
@@ -41,7 +41,14 @@ pub data IsRefusedBy (text : List ℕ) : told.Answered → Type 0 where
 abbrev pub HasProgram : Request → Type 0
 HasProgram (format program) = ⊥
 HasProgram (exec r) = ⊥
+HasProgram (upgrade classes) = ⊥
 HasProgram _ = Unit {0}
+
+-- the request has a class text
+abbrev pub HasClassText : Request → Type 0
+HasClassText (exec r) = Unit {0}
+HasClassText (upgrade classes) = Unit {0}
+HasClassText _ = ⊥
 
 -- What is due by the first text alone.
 pub data DueBy (text : List ℕ) : Request → Outcome → Type 0 where
@@ -51,10 +58,11 @@ pub data DueBy (text : List ℕ) : Request → Outcome → Type 0 where
   refused : (q : Request) (a : told.Answered) → HasProgram q → IsRefusedBy text a → DueBy text q (Answered a)
   passed : (p : List ℕ) (program : Program) → IsPassing text program → DueBy text (check p) (Answered Passed)
   compiled : (p : List ℕ) (program : Program) (classes : RawClasses) → IsPassing text program → Has (program_of program) (raw_of classes)
-      → DueBy text (compile p) (Answered (Compiled classes))
+      → DueBy text (compile p) (Answered (Printed classes))
   -- the class text is refused, and not for want of memory
-  no_classes : (r : RunRequest) (fault : ClassFault) → ClassAnswer text (Err fault) → fault ≢ class.OutOfMemory
-      → DueBy text (exec r) (Answered (NoClasses fault))
+  no_classes : (q : Request) (fault : ClassFault) → HasClassText q → ClassAnswer text (Err fault) → fault ≢ class.OutOfMemory
+      → DueBy text q (Answered (NoClasses fault))
+  upgraded : (c : List ℕ) (classes : RawClasses) → ClassAnswer text (Ok classes) → DueBy text (upgrade c) (Answered (Printed classes))
 
 -- These classes are run for the request, by its text.
 pub record IsRunFor (text : List ℕ) (q : Request) (meant : Meant) (classes : RawClasses) : Type 0 where

@@ -41,7 +41,7 @@ use Rattle.flow_top.specs.Debugged.{WaitsOf}
 use Rattle.flow_top.specs.declared.outcome.Meant.{Meant}
 use Rattle.flow_top.specs.declared.outcome.Meant.TheVariants.{Text, Classes}
 use Rattle.flow_top.specs.declared.outcome.Answered as told
-use Rattle.flow_top.specs.declared.outcome.Answered.TheVariants.{Usage, ReadFault, OutOfMemory, Refused, NoClasses, NoWorld, LongScript, Passed, Compiled, Formatted}
+use Rattle.flow_top.specs.declared.outcome.Answered.TheVariants.{Usage, ReadFault, OutOfMemory, Refused, NoClasses, NoWorld, LongScript, Passed, Printed, Formatted}
 
 -- what is written for an outcome that is no run
 abbrev pub text_of : told.Answered → List ℕ
@@ -53,7 +53,7 @@ text_of (NoClasses fault) = class_refusal fault
 text_of (NoWorld fault) = world_refusal fault
 text_of LongScript = script_refusal
 text_of Passed = codes "ok" ++ 10 ∷ []
-text_of (Compiled classes) = ClassText (raw_of classes)
+text_of (Printed classes) = ClassText (raw_of classes)
 text_of (Formatted program) = Canon (program_of program)
 
 -- the status of a refusal of a world: 10 where it is too large
@@ -72,7 +72,7 @@ status_of (NoClasses fault) = class_status fault
 status_of (NoWorld fault) = world_status fault
 status_of LongScript = 10
 status_of Passed = 0
-status_of (Compiled classes) = 0
+status_of (Printed classes) = 0
 status_of (Formatted program) = 0
 
 -- what a fault of the files comes to

@@ -8,7 +8,7 @@ use Rattle.flow_gen.specs.Generator.{program_text, generated_world}
 use Rattle.flow_tree.specs.declared.limits.TheConstants.{PROGRAM_BYTES}
 use Rattle.flow_worldfile.specs.declared.TheConstants.{WORLD_BYTES}
 use Rattle.flow_classread.specs.declared.read.TheConstants.{CLASS_BYTES}
-use Rattle.flow_words.specs.Asked.{Request, format, check, compile, run, exec, bench, shrink, debug}
+use Rattle.flow_words.specs.Asked.{Request, format, check, compile, run, exec, bench, shrink, debug, upgrade}
 use Rattle.flow_top.specs.declared.source.Source as code
 use Rattle.flow_top.specs.declared.source.Source.TheVariants.{File, GeneratedProgram, GeneratedWorld}
 
@@ -27,6 +27,7 @@ first_source (exec r) = of_file r.what CLASS_BYTES
 first_source (bench clients seed) = generated (program_text clients)
 first_source (shrink program world want) = of_file program PROGRAM_BYTES
 first_source (debug program world most) = of_file program PROGRAM_BYTES
+first_source (upgrade classes) = of_file classes CLASS_BYTES
 
 -- the text of the world in which something is run
 abbrev pub world_source : Request → Option Source

@@ -45,7 +45,8 @@ fn wanted_by<'a>(asked: &'a Asked<'_>) -> &'a [Want]
         | Asked::Check(_)
         | Asked::Compile(_)
         | Asked::Bench(..)
-        | Asked::Debug(_) => &[],
+        | Asked::Debug(_)
+        | Asked::Upgrade(_) => &[],
     }
 }
 

@@ -25,7 +25,8 @@ fn tells_frames(asked: &Asked<'_>) -> bool
         | Asked::Compile(_)
         | Asked::Bench(..)
         | Asked::Shrink(_)
-        | Asked::Debug(_) => false,
+        | Asked::Debug(_)
+        | Asked::Upgrade(_) => false,
     }
 }
 
@@ -50,8 +51,12 @@ fn run_for(asked: &Asked<'_>, run: ProgramRun) -> Outcome
             clients: *clients,
             seed: *seed,
         }),
-        Asked::Format(_) | Asked::Check(_) | Asked::Compile(_) | Asked::Run(_) | Asked::Exec(_) =>
-            Outcome::Run(run),
+        Asked::Format(_)
+        | Asked::Check(_)
+        | Asked::Compile(_)
+        | Asked::Run(_)
+        | Asked::Exec(_)
+        | Asked::Upgrade(_) => Outcome::Run(run),
         Asked::Shrink(_) => shrink_for(run),
         Asked::Debug(debug) => Outcome::Debug(DebugRun {
             run,

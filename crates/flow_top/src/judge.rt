@@ -155,7 +155,7 @@ fn compiled(alloc: Global, text: &[u8]) -> Answered
                 classes,
                 waits: _,
             },
-        ) => Answered::Compiled(classes),
+        ) => Answered::Printed(classes),
         Err(told) => told,
     }
 }
@@ -186,6 +186,16 @@ fn class_text(alloc: Global, text: &[u8]) -> Result<Runnable, Answered>
     }
 }
 
+// What `upgrade` comes to on a text.
+fn upgraded(alloc: Global, text: &[u8]) -> Answered
+    ensures { (c : List ℕ) → EndsBy text.now (Request.upgrade c) result }
+{
+    match read_classes(alloc, text) {
+        Ok(classes) => Answered::Printed(classes),
+        Err(fault) => class_outcome(fault),
+    }
+}
+
 /// What a request comes to by the text that it begins with: the classes that are run for it, or the outcome without a run.
 pub fn judge(alloc: Global, asked: &Asked<'_>, text: &[u8]) -> Result<Runnable, Answered>
     ensures runs { RunsTo text.now (request_of asked.now) result }
@@ -200,6 +210,7 @@ pub fn judge(alloc: Global, asked: &Asked<'_>, text: &[u8]) -> Result<Runnable, 
         Asked::Shrink(_) => program(alloc, text),
         Asked::Debug(_) => program_with_waits(alloc, text),
         Asked::Exec(_) => class_text(alloc, text),
+        Asked::Upgrade(_) => Err(upgraded(alloc, text)),
     }
 }
 

@@ -82,8 +82,8 @@ pub enum Answered {
     LongScript,
     /// The program passes all rules.
     Passed,
-    /// The classes of the program are written.
-    Compiled(ClassProgram),
+    /// Classes are written, as class text of the newest version.
+    Printed(ClassProgram),
     /// The program is written in its canonical text.
     Formatted(Program),
 }

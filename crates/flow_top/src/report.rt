@@ -112,7 +112,7 @@ fn put<S: Sink>(alloc: Global, outcome: Answered, out: &mut S) -> Result<(), Out
         Answered::NoWorld(fault) => put_world_refusal(alloc, fault, out),
         Answered::LongScript => write_whole(out, b"refused L13\n"),
         Answered::Passed => write_whole(out, b"ok\n"),
-        Answered::Compiled(classes) => write_classes(alloc, classes.raw(), out),
+        Answered::Printed(classes) => write_classes(alloc, classes.raw(), out),
         Answered::Formatted(program) => show_lines(alloc, &program, out),
     }
 }
@@ -137,7 +137,7 @@ fn status(outcome: &Answered) -> u8
 {
     match outcome {
         Answered::Passed => 0,
-        Answered::Compiled(_) => 0,
+        Answered::Printed(_) => 0,
         Answered::Formatted(_) => 0,
         Answered::Usage => 2,
         Answered::ReadFault => 5,

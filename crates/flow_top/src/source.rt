@@ -42,6 +42,7 @@ pub fn first_source<'a>(asked: &Asked<'a>) -> Source<'a>
         Asked::Exec(run) => Source::File(run.what, CLASS_BYTES),
         Asked::Shrink(shrink) => Source::File(shrink.program, PROGRAM_BYTES),
         Asked::Debug(debug) => Source::File(debug.program, PROGRAM_BYTES),
+        Asked::Upgrade(classes) => Source::File(classes, CLASS_BYTES),
         Asked::Bench(clients, _) => Source::GeneratedProgram(*clients),
     }
 }
@@ -55,7 +56,7 @@ pub fn world_source<'a>(asked: &Asked<'a>) -> Option<Source<'a>>
         Asked::Bench(clients, seed) => Some(Source::GeneratedWorld(*clients, *seed)),
         Asked::Shrink(shrink) => Some(Source::File(shrink.world, WORLD_BYTES)),
         Asked::Debug(debug) => Some(Source::File(debug.world, WORLD_BYTES)),
-        Asked::Format(_) | Asked::Check(_) | Asked::Compile(_) => None,
+        Asked::Format(_) | Asked::Check(_) | Asked::Compile(_) | Asked::Upgrade(_) => None,
     }
 }
 

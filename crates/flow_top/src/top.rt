@@ -74,7 +74,8 @@ fn wanted_alone<'a>(asked: &'a Asked<'_>) -> Option<&'a Want>
         | Asked::Run(_)
         | Asked::Exec(_)
         | Asked::Bench(..)
-        | Asked::Debug(_) => None,
+        | Asked::Debug(_)
+        | Asked::Upgrade(_) => None,
     }
 }
 
@@ -85,7 +86,8 @@ fn wanted_alone<'a>(asked: &'a Asked<'_>) -> Option<&'a Want>
 /// to where a monitor says Stop that is handed in and named by `--monitor`. `exec C W` does so with the classes of the class text
 /// C, and `bench N SEED` writes the summary of a generated run. `shrink P W --monitor name=n` writes the world with a script of
 /// which no line can go, so that this monitor still says Stop. `debug P W K` writes the state of the program's own text after K events:
-/// where each unfinished actor waits, at which cells, and what its variables hold.
+/// where each unfinished actor waits, at which cells, and what its variables hold. `upgrade C` writes the canonical class text, of the
+/// newest version, of what the class text C is.
 pub fn flow_main<F: Files, S: Sink>(
     alloc: Global,
     words: &[String],

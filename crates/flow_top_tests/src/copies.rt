@@ -107,6 +107,7 @@ struct R {
     int n;
     Promise<int> q;
     string s;
+    vector<vector<int>> v;
 };
 bool f(int n, bool b) {
     if (!b) {
@@ -119,7 +120,7 @@ ACTOR Future<Void> g(PromiseStream<R> out, FutureStream<R> in, Future<Error> e) 
     state R r;
     int x = 1;
     for (int i = 0; i < x; i++) {
-        x += i;
+        x += r.v[i - 1][0];
         continue;
     }
     while (true) {
@@ -147,6 +148,14 @@ ACTOR Future<Void> g(PromiseStream<R> out, FutureStream<R> in, Future<Error> e) 
             }
         }
     }
+}
+ACTOR void h(vector<R> v, int i) {
+    state vector<Promise<int>> q;
+    if (i >= v.size()) {
+        return;
+    }
+    trace(v[i].n);
+    return;
 }
 ACTOR Future<Void> main(int p) {
     return Void();

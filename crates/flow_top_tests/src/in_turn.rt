@@ -222,6 +222,18 @@ class main returns Void params 1 {
 }
 ";
 
+// The same in the newest version.
+const UPGRADED: &[u8] = b"\
+classes 2
+class main returns Void params 1 {
+    slot 0 int p;
+    block 0 {
+        act trace(s0);
+        return Void();
+    }
+}
+";
+
 const CLASSES_TRACE: &[u8] =
     b"trace 1\nevent 1 0 boot 0\nstart 1 main\nprint 1 0\ndone 1\nend idle\n";
 
@@ -241,6 +253,14 @@ fn exec_classes<'a>() -> Command<'a> {
     }
 }
 
+fn upgrade_classes<'a>() -> Command<'a> {
+    Command {
+        words: &["upgrade", "p"],
+        first: CLASSES,
+        second: b"",
+    }
+}
+
 fn of_server<'a>(words: &'a [&'a str]) -> Command<'a> {
     Command {
         words,
@@ -255,6 +275,7 @@ fn each_call_of_the_files_fails(rt: HostRuntime) -> Result<(), AllocError> {
     let alloc = rt.alloc();
     assert!(rt; each_read_is_told(alloc, run_server(), 6, SERVER_TRACE)?);
     assert!(rt; each_read_is_told(alloc, exec_classes(), 6, CLASSES_TRACE)?);
+    assert!(rt; each_read_is_told(alloc, upgrade_classes(), 3, UPGRADED)?);
     assert!(rt; each_read_is_told(alloc, of_server(&["check", "p"]), 3, b"ok\n")?);
     assert!(rt; each_read_is_told(alloc, of_server(&["format", "p"]), 3, SERVER)?);
     Ok(())
@@ -265,6 +286,7 @@ fn each_call_of_the_sink_fails(rt: HostRuntime) -> Result<(), AllocError> {
     let alloc = rt.alloc();
     assert!(rt; each_write_is_told(alloc, run_server())?);
     assert!(rt; each_write_is_told(alloc, exec_classes())?);
+    assert!(rt; each_write_is_told(alloc, upgrade_classes())?);
     assert!(rt; each_write_is_told(alloc, of_server(&["check", "p"]))?);
     assert!(rt; each_write_is_told(alloc, of_server(&["format", "p"]))?);
     assert!(rt; each_write_is_told(alloc, of_server(&["compile", "p"]))?);

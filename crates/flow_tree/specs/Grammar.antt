@@ -10,7 +10,7 @@ use Rattle.flow_tree.specs.declared.token.Sign.TheVariants as sign
 use Rattle.flow_tree.specs.declared.expr.Op.{Op}
 use Rattle.flow_tree.specs.declared.expr.Op.TheVariants.{Or, And, Eq, Ne, Lt, Le, Gt, Ge, Add, Sub, Mul, Div, Rem}
 use Rattle.flow_tree.specs.declared.ty.Ident.{Ident}
-use Rattle.flow_tree.specs.Tree.{ByName, TypeTree, IntType, BoolType, StringType, VoidType, ErrorType, NamedType, FutureType, FutureStreamType, PromiseType, PromiseStreamType, ExprTree, ExprTrees, IntExpr, TextExpr, BoolExpr, VoidExpr, VarExpr, CallExpr, FieldExpr, MethodExpr, NotExpr, NegExpr, BinaryExpr, ParenExpr, NoExprs, MoreExprs}
+use Rattle.flow_tree.specs.Tree.{ByName, indexed, TypeTree, IntType, BoolType, StringType, VoidType, ErrorType, NamedType, FutureType, FutureStreamType, PromiseType, PromiseStreamType, VectorType, ExprTree, ExprTrees, IntExpr, TextExpr, BoolExpr, VoidExpr, VarExpr, CallExpr, FieldExpr, MethodExpr, NotExpr, NegExpr, BinaryExpr, ParenExpr, NoExprs, MoreExprs}
 use Rattle.flow_tree.specs.GrammarToken.{Node, Marked, opens, begin}
 
 -- a sign, a word or a name with which no part begins
@@ -49,18 +49,21 @@ pub data Wrapper : Type 0 where
   FutureStreamOf : Wrapper
   PromiseOf : Wrapper
   PromiseStreamOf : Wrapper
+  VectorOf : Wrapper
 
 abbrev pub wrapper_word : Wrapper → Word
 wrapper_word FutureOf = word.Future
 wrapper_word FutureStreamOf = word.FutureStream
 wrapper_word PromiseOf = word.Promise
 wrapper_word PromiseStreamOf = word.PromiseStream
+wrapper_word VectorOf = word.Vector
 
 abbrev pub wrapped : Wrapper → TypeTree → TypeTree
 wrapped FutureOf t = FutureType t
 wrapped FutureStreamOf t = FutureStreamType t
 wrapped PromiseOf t = PromiseType t
 wrapped PromiseStreamOf t = PromiseStreamType t
+wrapped VectorOf t = VectorType t
 
 -- a type of this depth; a type argument is one deeper than the type around it
 pub data TypeRule : ℕ → List Marked → TypeTree → Type 0 where
@@ -95,7 +98,7 @@ level Rem = 5
 abbrev pub unary_level : ℕ
 unary_level = 6
 
--- the level of what no sign splits, behind which a dot may stand
+-- the level of what no sign splits, behind which a dot or an index may stand
 abbrev pub dot_level : ℕ
 dot_level = 7
 
@@ -144,6 +147,11 @@ mutual
         → ExprRule dot_level (suc d) of t → ArgsRule (suc d) args ts
         → all ≡ begin (Node d) of ++ (sign_at sign.Dot p ∷ name_at f ∷ in_round q args r [])
         → ExprRule k d all (MethodExpr t (ByName f) ts)
+    -- postfix "[" expr "]"
+    index : {k d : ℕ} {t i : ExprTree} {all : List Marked} (p q : Place) (of at : List Marked)
+        → ExprRule dot_level (suc d) of t → ExprRule 0 (suc d) at i
+        → all ≡ begin (Node d) of ++ (sign_at sign.OpenSquare p ∷ (at ++ sign_at sign.CloseSquare q ∷ []))
+        → ExprRule k d all (indexed t i)
     -- ( "!" | "-" ) unary
     negation : {k d : ℕ} {t : ExprTree} {all : List Marked} (p : Place) (of : List Marked)
         → k ≤ unary_level → ExprRule unary_level (suc d) of t

@@ -1,11 +1,13 @@
 -- The grammar of declarations and programs, and what a program's tokens are refused for.
-use Rattle.std.specs.Prelude.{◌≡◌, ℕ, suc, Bool, true, false, List, [], ◌∷◌, ◌++◌, length}
+use Rattle.std.specs.Prelude.{◌≡◌, ℕ, suc, List, [], ◌∷◌, ◌++◌, length}
 use Rattle.flow_base.specs.declared.place.Place.{Place}
 use Rattle.flow_tree.specs.declared.token.Word.TheVariants as word
 use Rattle.flow_tree.specs.declared.token.Sign.TheVariants as sign
 use Rattle.flow_tree.specs.declared.token.Tokens.{Tokens}
 use Rattle.flow_tree.specs.declared.ty.Ident.{Ident}
-use Rattle.flow_tree.specs.Tree.{TypeTree}
+use Rattle.flow_tree.specs.declared.decl.RoutineKind.{RoutineKind}
+use Rattle.flow_tree.specs.declared.decl.RoutineKind.TheVariants.{Actor, Function}
+use Rattle.flow_tree.specs.Tree.{TypeTree, NothingType}
 use Rattle.flow_tree.specs.Body.{Body}
 use Rattle.flow_tree.specs.Decls.{ParamTree, RecordTree, RoutineTree, DeclTree, StructDecl, FunctionDecl, ActorDecl, ProgramTree}
 use Rattle.flow_tree.specs.GrammarToken.{Declaration, Node, Variable, Marked, begin, Derives}
@@ -50,26 +52,38 @@ pub data RecordRule : List Marked → RecordTree → Type 0 where
       → all ≡ word_at word.Struct at ∷ name_at x ∷ in_curly p xs q (sign_at sign.Semicolon r ∷ [])
       → RecordRule all (record { at = at; name = x; fields = f ∷ fs })
 
--- name "(" params ")" "{" statements "}", of an actor or a function; its statements have depth 2, and
--- an actor's state variables go on from its parameters
-pub data RoutineRule : Bool → Place → TypeTree → List Marked → RoutineTree → Type 0 where
-  routine : {actor : Bool} {at : Place} {t : TypeTree} {c : Counts} {ps : List ParamTree} {body : Body} {all : List Marked}
+-- name "(" params ")" "{" statements "}" of such a routine; its statements have depth 2, and an actor's state
+-- variables go on from its parameters
+pub data RoutineRule : RoutineKind → Place → TypeTree → List Marked → RoutineTree → Type 0 where
+  routine : {home : RoutineKind} {at : Place} {t : TypeTree} {c : Counts} {ps : List ParamTree} {body : Body} {all : List Marked}
       (p q r close : Place) (x : Ident) (params xs : List Marked)
-      → ParamsRule params ps → StmtsRule actor 2 (record { statements = 0; variables = length ps }) c xs body
+      → ParamsRule params ps → StmtsRule home 2 (record { statements = 0; variables = length ps }) c xs body
       → all ≡ name_at x ∷ in_round p params q (in_curly r xs close [])
-      → RoutineRule actor at t all (record { at = at; returns = t; name = x; params = ps; body = body; close = close })
+      → RoutineRule home at t all (record { at = at; returns = t; name = x; params = ps; body = body; close = close })
 
--- record | type routine | "ACTOR" "Future" "<" type ">" routine; the type in brackets has depth 2
+-- type routine: a function, of a program or of a class text
+pub data FunctionRule : RoutineKind → List Marked → RoutineTree → Type 0 where
+  function : {home : RoutineKind} {t : TypeTree} {f : RoutineTree} {all : List Marked} (at : Place) (of xs : List Marked)
+      → TypeRule 1 of t → RoutineRule home at t xs f
+      → all ≡ of ++ xs
+      → StartsAt all at → FunctionRule home all f
+
+-- "ACTOR" ( "Future" "<" type ">" | "void" ) routine; the type in brackets has depth 2
+pub data ActorRule : List Marked → RoutineTree → Type 0 where
+  actor : {t : TypeTree} {f : RoutineTree} {all : List Marked} (at p q r : Place) (of xs : List Marked)
+      → TypeRule 2 of t → RoutineRule Actor at t xs f
+      → all ≡ word_at word.Actor at ∷ word_at word.Future p ∷ in_angle q of r xs
+      → ActorRule all f
+  void_actor : {f : RoutineTree} {all : List Marked} (at p : Place) (xs : List Marked)
+      → RoutineRule Actor at NothingType xs f
+      → all ≡ word_at word.Actor at ∷ word_at word.NoResult p ∷ xs
+      → ActorRule all f
+
+-- record | function | actor
 pub data DeclRule : List Marked → DeclTree → Type 0 where
   record_decl : {r : RecordTree} {all : List Marked} → RecordRule all r → DeclRule all (StructDecl r)
-  function_decl : {t : TypeTree} {f : RoutineTree} {all : List Marked} (at : Place) (of xs : List Marked)
-      → TypeRule 1 of t → RoutineRule false at t xs f
-      → all ≡ of ++ xs
-      → StartsAt all at → DeclRule all (FunctionDecl f)
-  actor_decl : {t : TypeTree} {f : RoutineTree} {all : List Marked} (at p q r : Place) (of xs : List Marked)
-      → TypeRule 2 of t → RoutineRule true at t xs f
-      → all ≡ word_at word.Actor at ∷ word_at word.Future p ∷ in_angle q of r xs
-      → DeclRule all (ActorDecl f)
+  function_decl : {f : RoutineTree} {all : List Marked} → FunctionRule Function all f → DeclRule all (FunctionDecl f)
+  actor_decl : {f : RoutineTree} {all : List Marked} → ActorRule all f → DeclRule all (ActorDecl f)
 
 -- declarations one after another, the first with this number; a declaration has depth 1
 pub data DeclsRule : ℕ → List Marked → List DeclTree → Type 0 where

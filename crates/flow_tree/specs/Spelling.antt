@@ -8,7 +8,7 @@ use Rattle.flow_tree.specs.declared.token.Token.{Token}
 use Rattle.flow_tree.specs.declared.token.Token.TheVariants as token
 use Rattle.flow_tree.specs.declared.token.Token.TheVariants.{Name, Number, Text}
 use Rattle.flow_tree.specs.declared.token.Word as words
-use Rattle.flow_tree.specs.declared.token.Word.TheVariants.{Actor, Struct, State, Wait, WaitNext, Choose, When, Loop, While, For, If, Else, Break, Continue, Return, Throw, Try, Catch, Yes, No, Int, Bool as Bool', Str, Void, Error, Future, FutureStream, Promise, PromiseStream}
+use Rattle.flow_tree.specs.declared.token.Word.TheVariants.{Actor, Struct, State, Wait, WaitNext, Choose, When, Loop, While, For, If, Else, Break, Continue, Return, Throw, Try, Catch, Yes, No, Int, Bool as Bool', Str, Void, Error, Future, FutureStream, Promise, PromiseStream, Vector, NoResult}
 use Rattle.flow_tree.specs.declared.token.Sign as signs
 use Rattle.flow_tree.specs.declared.token.Sign.TheVariants.{OpenRound, CloseRound, OpenCurly, CloseCurly, OpenSquare, CloseSquare, Less, Greater, Comma, Semicolon, Dot, Assign, Equal, NotEqual, LessEqual, GreaterEqual, AndAnd, OrOr, Not, Plus, Minus, Star, Slash, Percent, PlusAssign, MinusAssign, PlusPlus, MinusMinus, Amp}
 
@@ -43,6 +43,8 @@ word_bytes Future = codes "Future"
 word_bytes FutureStream = codes "FutureStream"
 word_bytes Promise = codes "Promise"
 word_bytes PromiseStream = codes "PromiseStream"
+word_bytes Vector = codes "vector"
+word_bytes NoResult = codes "void"
 
 -- the bytes of a sign
 abbrev pub sign_bytes : signs.Sign → List ℕ

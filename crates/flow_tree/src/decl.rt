@@ -1,6 +1,7 @@
 // Declarations and programs.
 
 ghost use Rattle.std.specs.Prelude.{◌≡◌, IfOk, map};
+ghost use Rattle.flow_tree.specs.GrammarStmt.{has_bare_return};
 ghost use Rattle.flow_tree.specs.DeclView.{param_of, slot_of, record_of, function_of, actor_of};
 
 use crate::stmt::{Stmt, copy_stmts};
@@ -30,6 +31,26 @@ pub struct RecordDecl {
     pub at: Place,
     pub name: Ident,
     pub fields: Vec<Param>,
+}
+
+/// In what statements stand. Functions of class text of version 1 have a grammar of their own.
+#[derive(Clone, Copy, PartialEq, Eq)]
+pub enum RoutineKind {
+    Actor,
+    Function,
+    OldFunction,
+}
+
+impl RoutineKind {
+    /// Whether `return;` stands there by the grammar.
+    pub fn has_bare_return(self) -> bool
+        ensures { result ≡ has_bare_return self }
+    {
+        match self {
+            RoutineKind::Actor | RoutineKind::Function => true,
+            RoutineKind::OldFunction => false,
+        }
+    }
 }
 
 /// A plain function. `close` is the place of its closing brace.

@@ -7,7 +7,7 @@ use crate::token::{Sign, Word};
 
 impl Word {
     /// All of them, in order.
-    pub const ALL: [Word; 29] = [
+    pub const ALL: [Word; 31] = [
         Word::Actor,
         Word::Struct,
         Word::State,
@@ -37,6 +37,8 @@ impl Word {
         Word::FutureStream,
         Word::Promise,
         Word::PromiseStream,
+        Word::Vector,
+        Word::NoResult,
     ];
 
     /// The bytes that spell the word.
@@ -73,6 +75,8 @@ impl Word {
             Word::FutureStream => b"FutureStream",
             Word::Promise => b"Promise",
             Word::PromiseStream => b"PromiseStream",
+            Word::Vector => b"vector",
+            Word::NoResult => b"void",
         }
     }
 }

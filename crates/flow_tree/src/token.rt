@@ -40,6 +40,8 @@ pub enum Word {
     FutureStream,
     Promise,
     PromiseStream,
+    Vector,
+    NoResult,
 }
 
 /// The signs, in the order of the language page.

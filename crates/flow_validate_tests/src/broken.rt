@@ -506,3 +506,45 @@ V1 # int g(int n) { return m; } # class c returns int params 1 { slot 0 int v; l
 V2 0 # - # class f returns int params 1 { slot 0 int v; block 0 { return 1; } }
 V2 0 # - # class c returns int params 2 { slot 0 int v; block 0 { return 1; } } class c returns int params 1 { slot 0 int v; block 0 { return 1; } } class main returns Void params 1 { slot 0 int p; block 0 { return Void(); } }
 ";
+
+/// A vector that isn't used as one, or a class that gives nothing and one that gives a value, each taken for the other.
+pub const VECTORS_AND_NOTHING: &str = "\
+V7 0 # - # local 0 vector<Future<int>>; block 0 { new l0; act l0.push_back(c(1)); choose 1; } block 1 { return 1; } group 1 { callback 0 wait(l0[0]) into s0 goto 1; }
+V7 0 # - # block 0 { return; }
+V7 0 # - # class c returns void params 1 { slot 0 int v; block 0 { return s0; } } class main returns Void params 1 { slot 0 int p; block 0 { return Void(); } }
+V7 0 # - # class c returns void params 1 { slot 0 int v; block 0 { return Void(); } } class main returns Void params 1 { slot 0 int p; block 0 { return Void(); } }
+V7 0 # - # class c returns Void params 1 { slot 0 int v; block 0 { return; } } class main returns Void params 1 { slot 0 int p; block 0 { return Void(); } }
+V2 # - # class c returns void params 0 { block 0 { return; } } class main returns void params 1 { slot 0 int p; block 0 { return; } }
+V7 1 # - # class c returns int params 1 { slot 0 int v; block 0 { return s0; } } class main returns Void params 1 { slot 0 int p; block 0 { return; } }
+V7 1 # - # class c returns void params 0 { block 0 { return; } } class main returns Void params 1 { slot 0 int p; local 0 int; block 0 { set l0 = c(); return Void(); } }
+V7 1 # - # class c returns void params 0 { block 0 { return; } } class main returns Void params 1 { slot 0 int p; block 0 { choose 1; } block 1 { return Void(); } group 1 { callback 0 wait(c()) goto 1; } }
+V7 1 # - # class c returns void params 0 { block 0 { return; } } class main returns Void params 1 { slot 0 int p; block 0 { act trace(c()); return Void(); } }
+V7 1 # - # class c returns void params 0 { block 0 { return; } } class main returns Void params 1 { slot 0 int p; block 0 { act c(1); return Void(); } }
+V7 1 # - # class c returns int params 1 { slot 0 int v; block 0 { return s0; } } class main returns Void params 1 { slot 0 int p; block 0 { act c(s0); return Void(); } }
+V7 1 # - # class c returns void params 0 { block 0 { return; } } class main returns Void params 1 { slot 0 int p; local 0 Future<Void>; block 0 { do l0 = c(); return Void(); } }
+V7 0 # - # block 0 { return s0[0]; }
+V7 0 # - # local 0 vector<int>; block 0 { new l0; return l0[true]; }
+V7 0 # - # local 0 vector<int>; block 0 { new l0; return l0; }
+V7 0 # - # local 0 vector<int>; block 0 { new l0; act l0.push_back(true); return 1; }
+V7 0 # - # local 0 vector<int>; block 0 { new l0; act l0.push_back(); return 1; }
+V7 0 # - # local 0 vector<int>; block 0 { new l0; act l0.clear(1); return 1; }
+V7 0 # - # local 0 vector<int>; block 0 { new l0; act l0.send(1); return 1; }
+V7 0 # - # local 0 vector<int>; block 0 { new l0; return l0.at(0); }
+V7 0 # - # local 0 vector<int>; block 0 { new l0; set l0 = s0; return 1; }
+V7 0 # - # local 0 vector<int>; local 1 vector<bool>; block 0 { new l1; set l0 = l1; return 1; }
+V7 0 # - # local 0 vector<R>; block 0 { new l0; return l0[0].m; }
+V7 0 # - # local 0 vector<int>; block 0 { new l0; test (l0 == l0) goto 1 else 1; } block 1 { return 1; }
+V8 0 # - # local 0 vector<int>; block 0 { return l0[0]; }
+V8 0 # - # local 0 vector<int>; block 0 { act l0.push_back(1); return 1; }
+V3 0 # - # local 0 vector<int>; block 0 { new l0; return l0[1 + l1]; }
+V8 0 # - # local 0 vector<int>; local 1 int; block 0 { new l0; return l0[l1]; }
+V2 0 # - # local 0 vector<Q>; block 0 { return 1; }
+V2 0 # - # slot 1 vector<Future<Q>> x; block 0 { return 1; }
+V7 0 # - # local 0 int; block 0 { new l0; return 1; }
+V1 # int g(int n) { return; } # class main returns Void params 1 { slot 0 int p; block 0 { return Void(); } }
+V1 # int g(vector<int> w) { return w[true]; } # class main returns Void params 1 { slot 0 int p; block 0 { return Void(); } }
+V1 # vector<int> g(int n) { return n; } # class main returns Void params 1 { slot 0 int p; block 0 { return Void(); } }
+V1 # vector<Future<int>> g(int n) { return g(n); } # class main returns Void params 1 { slot 0 int p; block 0 { return Void(); } }
+V1 # struct A { vector<A> a; }; # class main returns Void params 1 { slot 0 int p; block 0 { return Void(); } }
+V1 # struct A { vector<B> a; }; # class main returns Void params 1 { slot 0 int p; block 0 { return Void(); } }
+";

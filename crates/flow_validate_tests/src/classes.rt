@@ -118,8 +118,12 @@ fn test(alloc: Global, text: &mut Reader) -> Result<Last, SourceFault> {
     Ok(Last::Test(test, holds, fails))
 }
 
-fn returned(alloc: Global, text: &mut Reader) -> Result<Last, SourceFault> {
-    Ok(Last::Return(Some(text.expr(alloc)?)))
+// What a `return` gives, if it gives anything.
+fn returned(alloc: Global, text: &mut Reader) -> Result<Option<Expr>, SourceFault> {
+    if text.is_sign(Sign::Semicolon) {
+        return Ok(None);
+    }
+    Ok(Some(text.expr(alloc)?))
 }
 
 fn thrown(alloc: Global, text: &mut Reader) -> Result<Last, SourceFault> {
@@ -141,7 +145,7 @@ fn last(alloc: Global, text: &mut Reader) -> Result<Last, SourceFault> {
         return Ok(Last::Choose(text.number()));
     }
     if text.takes_word(Word::Return) {
-        return returned(alloc, text);
+        return Ok(Last::Return(returned(alloc, text)?));
     }
     thrown(alloc, text)
 }
@@ -333,15 +337,23 @@ fn params(text: &mut Reader) -> u32 {
     count
 }
 
+// What a class gives, if it gives anything.
+fn result(alloc: Global, text: &mut Reader) -> Result<Option<Ty>, SourceFault> {
+    if text.takes_word(Word::NoResult) {
+        return Ok(None);
+    }
+    Ok(Some(text.ty(alloc)?))
+}
+
 // A class with its name, what it returns and how many parameters it has, and nothing else.
 fn head(alloc: Global, text: &mut Reader) -> Result<Class, SourceFault> {
     text.name("class");
     let name = text.any_name(alloc)?;
     text.name("returns");
-    let returns = text.ty(alloc)?;
+    let returns = result(alloc, text)?;
     Ok(Class {
         name,
-        returns: Some(returns),
+        returns,
         params: params(text),
         slots: Vec::new(alloc),
         locals: Vec::new(alloc),

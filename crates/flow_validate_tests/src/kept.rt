@@ -196,6 +196,21 @@ ok # int g(int n) { return h(n); } int h(int n) { return n; } # class c returns 
 ok # A g(int n) { return A(n); } struct A { int n; }; # class c returns int params 1 { slot 0 int v; block 0 { return s0; } } class main returns Void params 1 { slot 0 int p; block 0 { return Void(); } }
 ok # int g(int n) { int k; return k; } # class c returns int params 1 { slot 0 int v; block 0 { return s0; } } class main returns Void params 1 { slot 0 int p; block 0 { return Void(); } }
 ok # struct A1 { int n; }; struct A2 { A1 a; }; struct A3 { A2 a; }; struct A4 { A3 a; }; struct A5 { A4 a; }; struct A6 { A5 a; }; struct A7 { A6 a; }; struct A8 { A7 a; }; struct A9 { A8 a; }; struct A10 { A9 a; }; struct A11 { A10 a; }; struct A12 { A11 a; }; struct A13 { A12 a; }; struct A14 { A13 a; }; struct A15 { A14 a; }; struct A16 { A15 a; }; # class main returns Void params 1 { slot 0 int p; block 0 { return Void(); } }
+ok # - # local 0 vector<int>; block 0 { new l0; act l0.push_back(s0); return l0[0]; }
+ok # - # local 0 vector<int>; block 0 { new l0; set l0 = l0; return l0.size(); }
+ok # - # slot 1 vector<int> w; block 0 { new s1; act s1.clear(); return s1[s0 - 1]; }
+ok # - # local 0 vector<vector<int>>; block 0 { new l0; return l0[s0][l0.size() - 1]; }
+ok # - # local 0 vector<R>; block 0 { new l0; act l0.push_back(R(s0)); return l0[0].n; }
+ok # struct R { vector<int> w; }; # class c returns int params 1 { slot 0 R v; block 0 { act s0.w.push_back(1); return s0.w[0]; } } class main returns Void params 1 { slot 0 int p; block 0 { return Void(); } }
+ok # int g(vector<int> w) { return w[0] + w.size(); } # class c returns int params 1 { slot 0 vector<int> v; block 0 { return g(s0); } } class main returns Void params 1 { slot 0 int p; block 0 { return Void(); } }
+ok # - # class c returns void params 0 { block 0 { return; } } class main returns Void params 1 { slot 0 int p; block 0 { act c(); return Void(); } }
+ok # - # class c returns void params 1 { slot 0 int v; block 0 { act c(s0 - 1); return; } } class main returns Void params 1 { slot 0 int p; block 0 { act c(s0); return Void(); } }
+ok # - # class c returns void params 1 { slot 0 int v; block 0 { test (s0 == 0) goto 1 else 2; } block 1 { return; } block 2 { throw timed_out(); } } class main returns Void params 1 { slot 0 int p; block 0 { act c(s0); return Void(); } }
+ok # - # class c returns void params 1 { slot 0 int v; block 0 { choose 1; } block 1 { return; } group 1 { callback 0 wait(delay(s0)) goto 1; } } class main returns Void params 1 { slot 0 int p; block 0 { act c(1); return Void(); } }
+ok # - # class c returns vector<int> params 0 { local 0 vector<int>; block 0 { new l0; return l0; } } class main returns Void params 1 { slot 0 int p; local 0 vector<int>; block 0 { choose 1; } block 1 { return Void(); } group 1 { callback 0 wait(c()) into l0 goto 1; } }
+ok # - # class c returns int params 1 { slot 0 int v; block 0 { return s0; } } class main returns Void params 1 { slot 0 int p; local 0 Future<int>; block 0 { do l0 = c(s0); return Void(); } }
+ok # - # local 0 vector<Future<int>>; block 0 { new l0; return 1; }
+ok # - # local 0 Promise<vector<int>>; local 1 vector<int>; block 0 { new l0; new l1; act l0.send(l1); return 1; }
 ";
 
 /// The class text of two classes, whole, and with one instruction changed.

@@ -1,6 +1,8 @@
 // Verdicts on class programs.
 
-use crate::broken::{BLOCKS, DECLARATIONS, FILLING, HEADS, NAMED, ORDER, TYPES};
+use crate::broken::{
+    BLOCKS, DECLARATIONS, FILLING, HEADS, NAMED, ORDER, TYPES, VECTORS_AND_NOTHING,
+};
 use crate::judged::{first_misjudged, is_judged};
 use crate::kept::{KEPT, WORKED};
 use crate::large::{many_blocks, ordinary};
@@ -36,6 +38,12 @@ fn names_and_blocks(rt: HostRuntime) -> Result<(), AllocError> {
 #[test]
 fn types(rt: HostRuntime) -> Result<(), AllocError> {
     assert_eq!(rt; first_misjudged(rt.alloc(), TYPES)?, None);
+    Ok(())
+}
+
+#[test]
+fn vectors_and_nothing(rt: HostRuntime) -> Result<(), AllocError> {
+    assert_eq!(rt; first_misjudged(rt.alloc(), VECTORS_AND_NOTHING)?, None);
     Ok(())
 }
 

@@ -22,7 +22,7 @@ pub record RunRequest : Type 0 where
   pub wanted : List Want
 
 -- what is asked for: of a program by its file, of a run, of a generated program and world by clients and seed, of a smaller world in
--- which a monitor stops a program, or of a program's state after so many events
+-- which a monitor stops a program, of a program's state after so many events, or of class text in the newest version
 pub data Request : Type 0 where
   format : (program : List ℕ) → Request
   check : (program : List ℕ) → Request
@@ -32,6 +32,7 @@ pub data Request : Type 0 where
   bench : (clients seed : ℕ) → Request
   shrink : (program world : List ℕ) → Want → Request
   debug : (program world : List ℕ) (most : ℕ) → Request
+  upgrade : (classes : List ℕ) → Request
 
 -- the command of its word
 abbrev pub command_of : (word : Text) → Option CommandWord
@@ -43,11 +44,12 @@ command_of word = if bytes_eq word (codes "format") then Some command.Format
     else if bytes_eq word (codes "bench") then Some command.Bench
     else if bytes_eq word (codes "shrink") then Some command.Shrink
     else if bytes_eq word (codes "debug") then Some command.Debug
+    else if bytes_eq word (codes "upgrade") then Some command.Upgrade
     else None
 
--- `PROGRAM`
-abbrev pub program_of : (words : List Text) → Option Text
-program_of words = option_and_then first_text (matched one_text_app words)
+-- `FILE`
+abbrev pub file_of : (words : List Text) → Option Text
+file_of words = option_and_then first_text (matched one_text_app words)
 
 -- `WHAT WORLD [--frames] [--monitor LIST]`
 abbrev pub run_with : (frames : Bool) → Option Text → Option Text → Option (List Want) → Option RunRequest
@@ -96,14 +98,15 @@ debug_of words = option_and_then debug_by (matched three_texts_app words)
 -- what a command asks for with the words behind it
 abbrev pub asked_by : Option CommandWord → (words : List Text) → Option Request
 asked_by None words = None
-asked_by (Some command.Format) words = option_map format (program_of words)
-asked_by (Some command.Check) words = option_map check (program_of words)
-asked_by (Some command.Compile) words = option_map compile (program_of words)
+asked_by (Some command.Format) words = option_map format (file_of words)
+asked_by (Some command.Check) words = option_map check (file_of words)
+asked_by (Some command.Compile) words = option_map compile (file_of words)
 asked_by (Some command.Run) words = option_map run (run_of words)
 asked_by (Some command.Exec) words = option_map exec (run_of words)
 asked_by (Some command.Bench) words = bench_of words
 asked_by (Some command.Shrink) words = shrink_of words
 asked_by (Some command.Debug) words = debug_of words
+asked_by (Some command.Upgrade) words = option_map upgrade (file_of words)
 
 -- what the words of a command line ask for, if they are one
 abbrev pub asked : (words : List Text) → Option Request
@@ -123,6 +126,7 @@ request_of (words.Exec r) = exec (run_request r)
 request_of (words.Bench clients seed) = bench clients seed
 request_of (words.Shrink s) = shrink s.program.now s.world.now s.want
 request_of (words.Debug d) = debug d.program.now d.world.now d.most
+request_of (words.Upgrade classes) = upgrade classes.now
 
 -- What is asked for is read, and where nothing is asked for, there is no usage of that form. There may be no memory.
 abbrev pub Reads : {T U : Type 0} → (U → T) → Option T → Result U WordsFault → Type 0

@@ -18,6 +18,7 @@ pub enum CommandWord {
     Bench,
     Shrink,
     Debug,
+    Upgrade,
 }
 
 /// What a command line asks for.
@@ -39,6 +40,8 @@ pub enum Asked<'a> {
     Shrink(ShrinkWords<'a>),
     /// The state of a run of the program of a file after so many events, 0 to 1,000,000, as the program's text has it.
     Debug(DebugWords<'a>),
+    /// The class text of a file as class text of the newest version.
+    Upgrade(&'a str),
 }
 
 /// A run that is asked for: the files of what is run and of its world, whether frames are told after each event, and the

@@ -2,7 +2,7 @@
 
 ghost use Rattle.std.specs.Prelude.{◌≡◌, map, string_bytes, Some};
 ghost use Rattle.clap.specs.Words.{found_of, rows_of};
-ghost use Rattle.flow_words.specs.Asked.{Reads, asked, request_of, run_request, command_of, program_of, run_of, run_by, bench_of, bench_by, shrink_of, shrink_by, debug_of, debug_by, asked_by};
+ghost use Rattle.flow_words.specs.Asked.{Reads, asked, request_of, run_request, command_of, file_of, run_of, run_by, bench_of, bench_by, shrink_of, shrink_by, debug_of, debug_by, asked_by};
 ghost use Rattle.flow_words.specs.Wants.{sole};
 
 use crate::asked::{Asked, CommandWord, DebugWords, RunWords, ShrinkWords, WordsFault};
@@ -44,16 +44,19 @@ fn command_of(word: &str) -> Option<CommandWord>
     if word == "debug" {
         return Some(CommandWord::Debug);
     }
+    if word == "upgrade" {
+        return Some(CommandWord::Upgrade);
+    }
     None
 }
 
-// The words are a program's file.
-fn program_of<'a>(alloc: Global, words: &'a [String]) -> Result<&'a str, WordsFault>
-    ensures { Reads (λ s. s.now) (program_of (map string_bytes words.entry.now)) result }
+// The words are a file.
+fn file_of<'a>(alloc: Global, words: &'a [String]) -> Result<&'a str, WordsFault>
+    ensures { Reads (λ s. s.now) (file_of (map string_bytes words.entry.now)) result }
 {
     let found = matches(one_text(alloc)?, words)?;
     match first_text(&found) {
-        Some(program) => Ok(program),
+        Some(file) => Ok(file),
         None => Err(WordsFault::Usage),
     }
 }
@@ -194,14 +197,15 @@ fn asked_by<'a>(
     ensures { Reads request_of (asked_by (Some command) (map string_bytes words.entry.now)) result }
 {
     match command {
-        CommandWord::Format => Ok(Asked::Format(program_of(alloc, words)?)),
-        CommandWord::Check => Ok(Asked::Check(program_of(alloc, words)?)),
-        CommandWord::Compile => Ok(Asked::Compile(program_of(alloc, words)?)),
+        CommandWord::Format => Ok(Asked::Format(file_of(alloc, words)?)),
+        CommandWord::Check => Ok(Asked::Check(file_of(alloc, words)?)),
+        CommandWord::Compile => Ok(Asked::Compile(file_of(alloc, words)?)),
         CommandWord::Run => Ok(Asked::Run(run_of(alloc, words)?)),
         CommandWord::Exec => Ok(Asked::Exec(run_of(alloc, words)?)),
         CommandWord::Bench => bench_of(alloc, words),
         CommandWord::Shrink => shrink_of(alloc, words),
         CommandWord::Debug => debug_of(alloc, words),
+        CommandWord::Upgrade => Ok(Asked::Upgrade(file_of(alloc, words)?)),
     }
 }
 

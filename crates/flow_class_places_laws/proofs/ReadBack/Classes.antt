@@ -3,6 +3,7 @@ use Rattle.std.proofs.Common.{◌≡◌, ℕ, suc, ◌+◌, ◌≤◌, List, [],
 use Rattle.std.specs.Prelude.{codes}
 use Rattle.std.proofs.lemmas.List.{length-map}
 use Rattle.flow_tree.specs.declared.limits.TheConstants.{BRANCHES}
+use Rattle.flow_tree.specs.declared.token.Word.TheVariants as word
 use Rattle.flow_tree.specs.declared.token.Sign.TheVariants as sign
 use Rattle.flow_tree.specs.Tree.{TypeTree}
 use Rattle.flow_tree.specs.Decls.{SlotTree}
@@ -11,15 +12,16 @@ use Rattle.flow_tree.specs.Grammar.{sign_at}
 use Rattle.flow_tree.specs.Canon.{type_text, expr_text, line, indent}
 use Rattle.flow_class.specs.Classes.{BlockTree, CallbackTree, ClassTree}
 use Rattle.flow_meaning.specs.Placeless.{placeless_block, placeless_callback, placeless_class}
-use Rattle.flow_classprint.specs.ClassGrammar.{said, number_at, BlockRule, block, NumberedRule, none, next, CallbackRule, callback, GroupsRule, no_groups, more_groups, SlotRule, slot, LocalRule, local, ClassRule, class, ClassesRule, no_classes, more_classes}
+use Rattle.flow_classprint.specs.declared.version.Version.TheVariants.{Two}
+use Rattle.flow_classprint.specs.ClassGrammar.{said, number_at, BlockRule, block, NumberedRule, none, next, CallbackRule, callback, GroupsRule, no_groups, more_groups, SlotRule, slot, LocalRule, local, ResultRule, result, no_result, ClassRule, class, ClassesRule, no_classes, more_classes}
 use Rattle.flow_classprint.specs.ClassText.{all_text, numbered, catch_text, last_text, instr_line, block_text, wait_text, into_text, callback_text, groups_text, slot_text, local_line, class_text}
-use Rattle.flow_show.proofs.Going.{Piece, Any, nothing, both, as_rule, behind, spaced, lined, blank, indent_gap}
-use Rattle.flow_show.proofs.TokenPieces.{name_piece}
+use Rattle.flow_show.proofs.Going.{Piece, Any, nothing, both, as_rule, behind, spaced, lined, under, blank, indent_gap}
+use Rattle.flow_show.proofs.TokenPieces.{Apart, name_piece, word_piece}
 use Rattle.flow_show.proofs.Valid.{AllValid, valid_head, valid_tail, valid_left, valid_right}
-use Rattle.flow_show.proofs.ExprPieces.{type_piece, space, semicolon}
+use Rattle.flow_show.proofs.ExprPieces.{AfterType, type_piece, space, closed, semicolon}
 use Rattle.flow_show.proofs.PartPieces.{operand_piece, wait_word}
 use Rattle.flow_show.proofs.StmtPieces.{sign_end, curly_open, curly_close, headed}
-use Rattle.flow_class_places_laws.proofs.ReadBack.Pieces.{Kept, number_here, catch_piece, catch_apart, into_piece, into_apart}
+use Rattle.flow_class_places_laws.proofs.ReadBack.Pieces.{Again, Kept, number_here, catch_piece, catch_apart, into_piece, into_apart}
 use Rattle.flow_class_places_laws.proofs.ReadBack.Values.{free_like, instrs_piece, last_piece}
 
 -- things one after another with their numbers
@@ -67,7 +69,7 @@ block_by : (k : ℕ) (h c b l : List ℕ) → line k (h ++ c ++ codes " {") ++ b
     ≡ line k (h ++ (c ++ (32 ∷ (123 ∷ (10 ∷ (b ++ (l ++ (indent k ++ 125 ∷ []))))))))
 block_by k h c b l = simp append_assoc refl
 
-block_piece : {n : ℕ} {m : List Marked} {x : BlockTree} → BlockRule n m x → AllValid m → Piece {X = Kept placeless_block (BlockRule n) x} (λ y. y.marked) m (block_text n x) Any
+block_piece : {n : ℕ} {m : List Marked} {x : BlockTree} → BlockRule Two n m x → AllValid m → Piece {X = Kept placeless_block (BlockRule Two n) x} (λ y. y.marked) m (block_text n x) Any
 block_piece {n} (block {c = c} {is = is} {l = l} p q r s caught body last h cr ir lr e) v =
     let a = subst AllValid e v in
     let b = valid_tail (valid_right caught _ (valid_tail (valid_tail a))) in
@@ -170,6 +172,16 @@ groups_piece {g} {k} (more_groups {c = x} {cs = xs} {rest = gs} p q r s of more 
     (e ∙ sym (ap (λ l. said (codes "group") p ∷ number_at g q ∷ sign_at sign.OpenCurly r ∷ l) (append_assoc of (sign_at sign.CloseCurly s ∷ []) more)))
     (ap (λ l. l ++ groups_text (suc g) (k + length (x ∷ xs)) gs) (headed 1 (codes "group " ++ decimal g) (numbered callback_text k (x ∷ xs))))
 
+-- what a class gives
+word_ends : (w : List ℕ) → AfterType w → Apart w
+word_ends w (space v) = refl
+word_ends w (closed v) = refl
+word_ends w (semicolon v) = refl
+
+result_piece : {m : List Marked} {t : TypeTree} → ResultRule Two m t → AllValid m → Piece {X = Again (ResultRule Two) t} (λ y. y.marked) m (type_text t) AfterType
+result_piece (result r) v = as_rule (type_piece r v) (λ y. record { marked = y.marked; rule = result y.rule }) (λ y. refl) refl refl
+result_piece (no_result p) v = under (as_rule (word_piece [] word.NoResult p) (λ x. record { marked = _; rule = no_result x }) (λ x. refl) refl refl) word_ends
+
 -- a class
 class_by : (k : ℕ) (h t n s l b g : List ℕ)
     → line k (h ++ codes " returns " ++ t ++ codes " params " ++ n ++ codes " {") ++ s ++ l ++ b ++ (g ++ line k (codes "}"))
@@ -183,7 +195,7 @@ same_list xs ys e = sym (all_same xs) ∙ e ∙ all_same ys
     all_same [] = refl
     all_same (x ∷ xs) = ap (λ us. x ∷ us) (all_same xs)
 
-pub class_piece : {m : List Marked} {c : ClassTree} → ClassRule m c → AllValid m → Piece {X = Kept placeless_class ClassRule c} (λ y. y.marked) m (class_text c) Any
+pub class_piece : {m : List Marked} {c : ClassTree} → ClassRule Two m c → AllValid m → Piece {X = Kept placeless_class (ClassRule Two) c} (λ y. y.marked) m (class_text c) Any
 class_piece (class {x = x} {t = t} {params = n} {ss = ss} {ls = ls} {b = b} {bs = bs} {gs = gs} p q r s u i w of slots locals blocks groups tr h sr lr br gr e) v =
     let a = subst AllValid e v in
     let typed = valid_tail (valid_tail (valid_tail a)) in
@@ -194,11 +206,11 @@ class_piece (class {x = x} {t = t} {params = n} {ss = ss} {ls = ls} {b = b} {bs 
     let in_groups = valid_right blocks _ in_blocks in
     as_rule
     (lined 0 (both (name_piece [] (codes "class") p (valid_head a)) (spaced (both (name_piece [] x q (valid_head (valid_tail a)))
-    (spaced (both (name_piece [] (codes "returns") r (valid_head (valid_tail (valid_tail a)))) (spaced (both (type_piece tr (valid_left of _ typed))
+    (spaced (both (name_piece [] (codes "returns") r (valid_head (valid_tail (valid_tail a)))) (spaced (both (result_piece tr (valid_left of _ typed))
     (spaced (both (name_piece [] (codes "params") s (valid_head counted)) (spaced (both (number_here u h) (spaced (both (curly_open i) (behind (blank 10 refl)
     (both (numbered_piece (λ z. z) SlotRule slot_text (λ z m c j k. slot_piece j k) sr (valid_left slots _ in_slots))
     (both (numbered_piece (λ z. z) LocalRule local_line (λ z m c j k. local_piece j k) lr (valid_left locals _ in_locals))
-    (both (some_piece placeless_block BlockRule block_text (λ z m c j k. block_piece j k) br (valid_left blocks _ in_blocks))
+    (both (some_piece placeless_block (BlockRule Two) block_text (λ z m c j k. block_piece j k) br (valid_left blocks _ in_blocks))
     (both (groups_piece gr (valid_left groups _ in_groups)) (curly_close w)
     (λ z g. tt)) (λ z g. tt)) (λ z g. tt)) (λ z g. tt))) (λ z g. tt))) (λ z g. refl))) (λ z g. refl))) (λ z g. space _))) (λ z g. refl))) (λ z g. refl))) (λ z g. refl)) (λ z. tt))
     (λ y.
@@ -229,8 +241,8 @@ class_piece (class {x = x} {t = t} {params = n} {ss = ss} {ls = ls} {b = b} {bs 
     (λ y. refl) e
     (class_by 0 (codes "class " ++ x) (type_text t) (decimal n) (numbered slot_text 0 ss) (numbered local_line 0 ls) (numbered block_text 0 (b ∷ bs)) (groups_text 1 0 gs))
 
-pub classes_piece : {m : List Marked} {cs : List ClassTree} → ClassesRule m cs → AllValid m
-    → Piece {X = Kept (map placeless_class) ClassesRule cs} (λ y. y.marked) m (all_text class_text cs) Any
+pub classes_piece : {m : List Marked} {cs : List ClassTree} → ClassesRule Two m cs → AllValid m
+    → Piece {X = Kept (map placeless_class) (ClassesRule Two) cs} (λ y. y.marked) m (all_text class_text cs) Any
 classes_piece no_classes v = as_rule nothing (λ y. record { marked = _; tree = []; rule = no_classes; like = refl }) (λ y. refl) refl refl
 classes_piece (more_classes first rest r s e) v =
     let a = subst AllValid e v in

@@ -6,11 +6,13 @@ use Rattle.flow_tree.specs.declared.limits.TheConstants.{OF_CLASS_TEXT}
 use Rattle.flow_tree.specs.Decls.{RecordTree, RoutineTree, DeclTree, StructDecl, FunctionDecl, ActorDecl}
 use Rattle.flow_tree.specs.Lexing.{place_after, ReadsTokens}
 use Rattle.flow_tree.specs.GrammarToken.{Node, Marked, begin, spots_of, AllInLimitsOf, KeepsOf}
-use Rattle.flow_tree.specs.GrammarDecl.{DeclRule}
+use Rattle.flow_tree.specs.declared.decl.RoutineKind.TheVariants.{Function}
+use Rattle.flow_tree.specs.GrammarDecl.{RecordRule, FunctionRule, DeclRule, record_decl, function_decl}
 use Rattle.flow_tree.specs.Canon.{line, placeless_record, placeless_routine, placeless_decl}
 use Rattle.flow_class.specs.Classes.{RawTree}
 use Rattle.flow_meaning.specs.Placeless.{placeless_classes}
-use Rattle.flow_classprint.specs.ClassGrammar.{said, number_at, AreSpelled, RecordRule, record_rule, FunctionRule, function_rule, HeadsRule, no_heads, more_records, more_functions, TextRule, text}
+use Rattle.flow_classprint.specs.declared.version.Version.TheVariants.{Two}
+use Rattle.flow_classprint.specs.ClassGrammar.{said, number_at, AreSpelled, HeadRecordRule, record_rule, HeadFunctionRule, function_rule, HeadsRule, no_heads, more_records, more_functions, VersionRule, text}
 use Rattle.flow_classprint.specs.ClassText.{all_text, record_text, function_text, class_text, ClassText}
 use Rattle.flow_show.proofs.Going.{Piece, Any, nothing, both, as_rule, begun, spaced, lined}
 use Rattle.flow_show.proofs.TokenPieces.{name_piece}
@@ -38,8 +40,8 @@ each_piece bare R spell one (and_more {m = first} {n = rest} {x = x} r s) v =
 
 -- records and functions
 struct_of : {m : List Marked} (r : RecordTree) (d : DeclTree) → DeclRule m d → placeless_decl d ≡ StructDecl (placeless_record r)
-    → (q : RecordTree) × DeclRule m (StructDecl q) × (placeless_record q ≡ placeless_record r)
-struct_of r (StructDecl q) rule h = (q, rule, same_of h)
+    → (q : RecordTree) × RecordRule m q × (placeless_record q ≡ placeless_record r)
+struct_of r (StructDecl q) (record_decl rule) h = (q, rule, same_of h)
   where
     same_of : {u v : RecordTree} → StructDecl u ≡ StructDecl v → u ≡ v
     same_of k = cc
@@ -47,23 +49,26 @@ struct_of r (FunctionDecl q) rule h = absurd cc
 struct_of r (ActorDecl q) rule h = absurd cc
 
 function_of : {m : List Marked} (f : RoutineTree) (d : DeclTree) → DeclRule m d → placeless_decl d ≡ FunctionDecl (placeless_routine f)
-    → (q : RoutineTree) × DeclRule m (FunctionDecl q) × (placeless_routine q ≡ placeless_routine f)
+    → (q : RoutineTree) × FunctionRule Function m q × (placeless_routine q ≡ placeless_routine f)
 function_of f (StructDecl q) rule h = absurd cc
-function_of f (FunctionDecl q) rule h = (q, rule, same_of h)
+function_of f (FunctionDecl q) (function_decl rule) h = (q, rule, same_of h)
   where
     same_of : {u v : RoutineTree} → FunctionDecl u ≡ FunctionDecl v → u ≡ v
     same_of k = cc
 function_of f (ActorDecl q) rule h = absurd cc
 
-record_piece : {m : List Marked} {r : RecordTree} → RecordRule m r → AllValid m → Piece {X = Kept placeless_record RecordRule r} (λ y. y.marked) m (record_text r) Any
+record_piece : {m : List Marked} {r : RecordTree} → HeadRecordRule m r → AllValid m → Piece {X = Kept placeless_record HeadRecordRule r} (λ y. y.marked) m (record_text r) Any
 record_piece (record_rule {r = r} of rule) v =
-    as_rule (begun (Node 1) (λ y. y.some) (decl_some rule) (decl_piece rule (valid_begun (Node 1) of v)))
+    let d = record_decl rule in
+    as_rule (begun (Node 1) (λ y. y.some) (decl_some d) (decl_piece d (valid_begun (Node 1) of v)))
     (λ y. let q = struct_of r y.tree y.rule y.like in record { marked = begin (Node 1) y.marked; tree = q.0; rule = record_rule y.marked q.1; like = q.2 })
     (λ y. refl) refl refl
 
-function_piece : {m : List Marked} {f : RoutineTree} → FunctionRule m f → AllValid m → Piece {X = Kept placeless_routine FunctionRule f} (λ y. y.marked) m (function_text f) Any
+function_piece : {m : List Marked} {f : RoutineTree} → HeadFunctionRule Two m f → AllValid m
+    → Piece {X = Kept placeless_routine (HeadFunctionRule Two) f} (λ y. y.marked) m (function_text f) Any
 function_piece (function_rule {f = f} of rule) v =
-    as_rule (begun (Node 1) (λ y. y.some) (decl_some rule) (decl_piece rule (valid_begun (Node 1) of v)))
+    let d = function_decl rule in
+    as_rule (begun (Node 1) (λ y. y.some) (decl_some d) (decl_piece d (valid_begun (Node 1) of v)))
     (λ y. let q = function_of f y.tree y.rule y.like in record { marked = begin (Node 1) y.marked; tree = q.0; rule = function_rule y.marked q.1; like = q.2 })
     (λ y. refl) refl refl
 
@@ -88,14 +93,14 @@ valid_both (x ∷ a) b h k = record { all = (valid_head h, (valid_both a b (vali
 record Sorted (rs : List RecordTree) (fs : List RoutineTree) : Type 0 where
   pub records : List Marked
   pub functions : List Marked
-  pub records_rule : EachRule RecordRule records rs
-  pub functions_rule : EachRule FunctionRule functions fs
+  pub records_rule : EachRule HeadRecordRule records rs
+  pub functions_rule : EachRule (HeadFunctionRule Two) functions fs
   pub records_valid : AllValid records
   pub functions_valid : AllValid functions
   pub records_keep : KeepsOf OF_CLASS_TEXT 7 records
   pub functions_keep : KeepsOf OF_CLASS_TEXT 7 functions
 
-sorted : {m : List Marked} {rs : List RecordTree} {fs : List RoutineTree} → HeadsRule m rs fs → AllValid m → KeepsOf OF_CLASS_TEXT 7 m → Sorted rs fs
+sorted : {m : List Marked} {rs : List RecordTree} {fs : List RoutineTree} → HeadsRule Two m rs fs → AllValid m → KeepsOf OF_CLASS_TEXT 7 m → Sorted rs fs
 sorted no_heads v k = record {
   records = [];
   functions = [];
@@ -135,11 +140,11 @@ sorted (more_functions first rest r s e) v k =
       functions_keep = holds_both first more.functions (holds_left first rest b) more.functions_keep;
     }
 
-functions_first : {m : List Marked} {fs : List RoutineTree} → EachRule FunctionRule m fs → HeadsRule m [] fs
+functions_first : {m : List Marked} {fs : List RoutineTree} → EachRule (HeadFunctionRule Two) m fs → HeadsRule Two m [] fs
 functions_first no_more = no_heads
 functions_first (and_more r s) = more_functions _ _ r (functions_first s) refl
 
-heads_of : {m n : List Marked} {rs : List RecordTree} {fs : List RoutineTree} → EachRule RecordRule m rs → EachRule FunctionRule n fs → HeadsRule (m ++ n) rs fs
+heads_of : {m n : List Marked} {rs : List RecordTree} {fs : List RoutineTree} → EachRule HeadRecordRule m rs → EachRule (HeadFunctionRule Two) n fs → HeadsRule Two (m ++ n) rs fs
 heads_of no_more k = functions_first k
 heads_of {n = n} (and_more {m = first} {n = rest} r s) k = more_records first (rest ++ n) r (heads_of s k) (append_assoc first rest n)
 
@@ -151,32 +156,32 @@ all_valid (x ∷ m) h = record { all = (valid_token x.spot.token h.0.bytes h.0.s
 text_by : (h r f c : List ℕ) → h ++ r ++ f ++ c ≡ h ++ (r ++ (f ++ c))
 text_by h r f c = simp append_assoc refl
 
-text_is : (r f c : List ℕ) → line 0 (codes "classes 1") ++ r ++ f ++ c ≡ line 0 (codes "classes" ++ (32 ∷ decimal 1)) ++ (r ++ (f ++ c))
+text_is : (r f c : List ℕ) → line 0 (codes "classes 2") ++ r ++ f ++ c ≡ line 0 (codes "classes" ++ (32 ∷ decimal 2)) ++ (r ++ (f ++ c))
 text_is r f c =
-    text_by (line 0 (codes "classes 1")) r f c
-    ∙ ap (λ d. line 0 (codes "classes" ++ (32 ∷ d)) ++ (r ++ (f ++ c))) (sym (decimal_digit 1 (omega arith)))
+    text_by (line 0 (codes "classes 2")) r f c
+    ∙ ap (λ d. line 0 (codes "classes" ++ (32 ∷ d)) ++ (r ++ (f ++ c))) (sym (decimal_digit 2 (omega arith)))
 
 -- the tokens of a canonical text, wherever it stands
-text_piece : {m : List Marked} {raw : RawTree} → TextRule 1 m raw → AllValid m → KeepsOf OF_CLASS_TEXT 7 m
-    → (o : List Marked) × KeepsOf OF_CLASS_TEXT 7 o × Piece {X = Kept placeless_classes (TextRule 1) raw} (λ y. y.marked) o (ClassText raw) Any
+text_piece : {m : List Marked} {raw : RawTree} → VersionRule Two m raw → AllValid m → KeepsOf OF_CLASS_TEXT 7 m
+    → (o : List Marked) × KeepsOf OF_CLASS_TEXT 7 o × Piece {X = Kept placeless_classes (VersionRule Two) raw} (λ y. y.marked) o (ClassText raw) Any
 text_piece {raw = raw} (text p q heads classes hr cr e) v k =
     let a = subst AllValid e v in
     let b = subst (KeepsOf OF_CLASS_TEXT 7) e k in
     let tops = sorted hr (valid_left heads classes (valid_tail (valid_tail a))) (holds_left heads classes b.1.1) in (
-      said (codes "classes") p ∷ number_at 1 q ∷ (tops.records ++ (tops.functions ++ classes)),
+      said (codes "classes") p ∷ number_at 2 q ∷ (tops.records ++ (tops.functions ++ classes)),
       (b.0, (b.1.0, holds_both tops.records _ tops.records_keep (holds_both tops.functions classes tops.functions_keep (holds_right heads classes b.1.1)))),
       as_rule
-          (both (lined 0 (both (name_piece [] (codes "classes") p (valid_head a)) (spaced (number_piece [] 1 q (omega arith))) (λ u g. refl)) (λ u. refl))
-          (both (each_piece placeless_record RecordRule record_text (λ m r j w. record_piece j w) tops.records_rule tops.records_valid)
-          (both (each_piece placeless_routine FunctionRule function_text (λ m f j w. function_piece j w) tops.functions_rule tops.functions_valid)
+          (both (lined 0 (both (name_piece [] (codes "classes") p (valid_head a)) (spaced (number_piece [] 2 q (omega arith))) (λ u g. refl)) (λ u. refl))
+          (both (each_piece placeless_record HeadRecordRule record_text (λ m r j w. record_piece j w) tops.records_rule tops.records_valid)
+          (both (each_piece placeless_routine (HeadFunctionRule Two) function_text (λ m f j w. function_piece j w) tops.functions_rule tops.functions_valid)
           (classes_piece cr (valid_right heads classes (valid_tail (valid_tail a)))) (λ u g. tt)) (λ u g. tt)) (λ u g. tt))
           (λ y. record {
-            marked = said (codes "classes") y.0.0 ∷ number_at 1 y.0.1 ∷ ((y.1.0.marked ++ y.1.1.0.marked) ++ y.1.1.1.marked);
+            marked = said (codes "classes") y.0.0 ∷ number_at 2 y.0.1 ∷ ((y.1.0.marked ++ y.1.1.0.marked) ++ y.1.1.1.marked);
             tree = record { records = y.1.0.tree; functions = y.1.1.0.tree; classes = y.1.1.1.tree };
             rule = text y.0.0 y.0.1 (y.1.0.marked ++ y.1.1.0.marked) y.1.1.1.marked (heads_of y.1.0.rule y.1.1.0.rule) y.1.1.1.rule refl;
             like = λ i. record { records = y.1.0.like i; functions = y.1.1.0.like i; classes = y.1.1.1.like i };
           })
-          (λ y. ap (λ l. said (codes "classes") y.0.0 ∷ number_at 1 y.0.1 ∷ l) (append_assoc y.1.0.marked y.1.1.0.marked y.1.1.1.marked))
+          (λ y. ap (λ l. said (codes "classes") y.0.0 ∷ number_at 2 y.0.1 ∷ l) (append_assoc y.1.0.marked y.1.1.0.marked y.1.1.1.marked))
           refl (text_is (all_text record_text raw.records) (all_text function_text raw.functions) (all_text class_text raw.classes)),
     )
 

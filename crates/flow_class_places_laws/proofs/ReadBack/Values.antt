@@ -12,7 +12,8 @@ use Rattle.flow_tree.specs.Canon.{expr_text, args_text, path_text, placeless_ide
 use Rattle.flow_class.specs.Places.{place_named}
 use Rattle.flow_class.specs.Classes.{InstrTree, SetInstr, EffectInstr, NewInstr, ActInstr, DropInstr, LastTree, GotoLast, PassLast, TestLast, ChooseLast, ReturnLast, ThrowLast}
 use Rattle.flow_meaning.specs.Placeless.{placeless_instr, placeless_last}
-use Rattle.flow_classprint.specs.ClassGrammar.{AreFree, AllAreFree, WholeRule, VarPathRule, var_path, CalleeRule, callee, method, AssignRule, assign, InstrRule, set, effect, new, act, drop, InstrsRule, no_instrs, more_instrs, LastRule, goto, pass, test, choose, return, throw}
+use Rattle.flow_classprint.specs.declared.version.Version.TheVariants.{Two}
+use Rattle.flow_classprint.specs.ClassGrammar.{AreFree, AllAreFree, WholeRule, VarPathRule, var_path, CalleeRule, callee, method, AssignRule, assign, InstrRule, set, effect, new, act, drop, InstrsRule, no_instrs, more_instrs, nothing as no_value, something, LastRule, goto, pass, test, choose, return, throw}
 use Rattle.flow_classprint.specs.ClassText.{all_text, instr_text, instr_line, last_text}
 use Rattle.flow_show.proofs.Going.{Piece, Any, nothing, both, as_rule, spaced, lined}
 use Rattle.flow_show.proofs.TokenPieces.{Apart, name_piece, word_piece, sign_piece, space_ends}
@@ -181,7 +182,7 @@ test_is : (e y n : List ℕ) → codes "test(" ++ e ++ codes ") goto " ++ y ++ c
 test_is e y n = simp append_assoc refl
 
 -- the last instruction of a block with its semicolon
-pub last_piece : {m : List Marked} {l : LastTree} → LastRule m l → AllValid m → Piece {X = Kept placeless_last LastRule l} (λ y. y.marked) m (last_text l ++ codes ";") Any
+pub last_piece : {m : List Marked} {l : LastTree} → LastRule Two m l → AllValid m → Piece {X = Kept placeless_last (LastRule Two) l} (λ y. y.marked) m (last_text l ++ codes ";") Any
 last_piece (goto {b = b} p q r h) v =
     as_rule (both (name_piece [] (codes "goto") p (valid_head v)) (spaced (both (number_here q h) (sign_end r) (λ u g. refl))) (λ u g. refl))
     (λ y. record { marked = _; tree = GotoLast b; rule = goto y.0 y.1.0 y.1.1 h; like = refl }) (λ y. refl) refl refl
@@ -205,10 +206,19 @@ last_piece (test {e = t} {y = to} {n = away} p q r s i u k w of er h j e) v =
 last_piece (choose {g = g} p q r h) v =
     as_rule (both (word_piece [] word.Choose p) (spaced (both (number_here q h) (sign_end r) (λ u x. refl))) (λ u x. refl))
     (λ y. record { marked = _; tree = ChooseLast g; rule = choose y.0 y.1.0 y.1.1 h; like = refl }) (λ y. refl) refl refl
-last_piece (return {e = t} p q of r e) v =
+last_piece (return p q of no_value e) v =
+    as_rule (both (word_piece [] word.Return p) (sign_end q) (λ u x. refl))
+    (λ y. record { marked = _; tree = ReturnLast None; rule = return y.0 y.1 [] no_value refl; like = refl }) (λ y. refl) e refl
+last_piece (return p q of (something r) e) v =
     let a = subst AllValid e v in
     as_rule (both (word_piece [] word.Return p) (spaced (both (whole_piece r (valid_left of _ (valid_tail a))) (sign_end q) (λ u x. refl))) (λ u x. refl))
-    (λ y. record { marked = _; tree = ReturnLast (Some y.1.0.tree); rule = return y.0 y.1.1 y.1.0.marked y.1.0.rule refl; like = ap (λ z. ReturnLast (Some z)) y.1.0.like }) (λ y. refl) e refl
+    (λ y. record {
+      marked = _;
+      tree = ReturnLast (Some y.1.0.tree);
+      rule = return y.0 y.1.1 y.1.0.marked (something y.1.0.rule) refl;
+      like = ap (λ z. ReturnLast (Some z)) y.1.0.like;
+    })
+    (λ y. refl) e refl
 last_piece (throw {e = t} p q of r e) v =
     let a = subst AllValid e v in
     as_rule (both (word_piece [] word.Throw p) (spaced (both (whole_piece r (valid_left of _ (valid_tail a))) (sign_end q) (λ u x. refl))) (λ u x. refl))

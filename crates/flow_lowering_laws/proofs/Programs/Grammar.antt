@@ -5,6 +5,7 @@ use Rattle.std.specs.declared.option.Option.TheVariants.{None, Some}
 use Rattle.flow_base.specs.declared.place.Place.{Place}
 use Rattle.flow_tree.specs.declared.token.Word.TheVariants as word
 use Rattle.flow_tree.specs.declared.token.Sign.TheVariants as sign
+use Rattle.flow_tree.specs.declared.decl.RoutineKind.{RoutineKind}
 use Rattle.flow_tree.specs.Body.{IntoTree, WaitTree, Body, End, DeclareStmt, WaitStmt, Branches, ForStmt, ModifyStmt}
 use Rattle.flow_tree.specs.Decls.{SlotTree}
 use Rattle.flow_tree.specs.GrammarToken.{Part, Statement, Node, Marked, begin}
@@ -100,12 +101,12 @@ one_variable i = by_state i.state
     by_state true = omega arith
     by_state false = omega arith
 
-into_tokens : {actor : Bool} {d : ℕ} {c c' : Counts} {all : List Marked} {i : IntoTree} → IntoRule actor d c c' all i → state_count i + local_count i ≤ length all
+into_tokens : {home : RoutineKind} {d : ℕ} {c c' : Counts} {all : List Marked} {i : IntoTree} → IntoRule home d c c' all i → state_count i + local_count i ≤ length all
 into_tokens {i = i} (declared x kept of s t eq) =
     let e = ap length eq in
     omega (arith, one_variable i, e, length-append kept (of ++ name_at x ∷ []), length-append of (name_at x ∷ []))
 
-waiting_tokens : {actor : Bool} {d : ℕ} {c c' : Counts} {all : List Marked} {w : WaitTree} → WaitingRule actor d c c' all w → into_states w.into + into_count w.into ≤ length all
+waiting_tokens : {home : RoutineKind} {d : ℕ} {c c' : Counts} {all : List Marked} {w : WaitTree} → WaitingRule home d c c' all w → into_states w.into + into_count w.into ≤ length all
 waiting_tokens (plain_wait o) = omega arith
 waiting_tokens (into_wait p left right i o eq) =
     let e = ap length eq in
@@ -118,7 +119,7 @@ assign_puts (minus at p path value r e eq s) = omega arith
 assign_puts (up at p path r eq s) = omega arith
 assign_puts (down at p path r eq s) = omega arith
 
-init_puts : {actor : Bool} {d : ℕ} {c c' : Counts} {all : List Marked} {at : Place} {rest body : Body} → InitRule actor d c c' all at rest body → Puts all rest body
+init_puts : {home : RoutineKind} {d : ℕ} {c c' : Counts} {all : List Marked} {at : Place} {rest body : Body} → InitRule home d c c' all at rest body → Puts all rest body
 init_puts (declare at i s) = omega (arith, into_tokens i)
 init_puts (declare_value at p left value i e eq s) = omega (arith, into_tokens i, ap length eq, length-append left (sign_at sign.Assign p ∷ value))
 init_puts (change at r) = assign_puts r
@@ -131,7 +132,7 @@ step_alone (minus at p path value r e eq s) = refl
 step_alone (up at p path r eq s) = refl
 step_alone (down at p path r eq s) = refl
 
-init_part : {actor : Bool} {d : ℕ} {c c' : Counts} {all : List Marked} {body : Body} → InitPart actor d c c' all body → Makes all body
+init_part : {home : RoutineKind} {d : ℕ} {c c' : Counts} {all : List Marked} {body : Body} → InitPart home d c c' all body → Makes all body
 init_part no_init = omega arith
 init_part {d = d} {c = c} (some_init at xs r eq) = omega (arith, init_puts r, ap length eq, statement_begun c d xs)
 
@@ -140,7 +141,7 @@ step_part no_step = refl
 step_part (some_step at xs r eq) = step_alone r
 
 mutual
-  plain_puts : {actor : Bool} {d : ℕ} {c c' : Counts} {all : List Marked} {at : Place} {rest body : Body} {e : Bool} → PlainRule actor d c c' all at rest body e → Puts all rest body
+  plain_puts : {home : RoutineKind} {d : ℕ} {c c' : Counts} {all : List Marked} {at : Place} {rest body : Body} {e : Bool} → PlainRule home d c c' all at rest body e → Puts all rest body
   plain_puts (if_stmt at p q test body t b eq) = omega (arith, body_makes b, ap length eq, length-append test (sign_at sign.CloseRound q ∷ body))
   plain_puts (if_else_stmt at p q r test body other t b d eq) =
       omega (
@@ -178,26 +179,26 @@ mutual
   plain_puts (wait_stmt at p xs w eq s) = omega (arith, waiting_tokens w, ap length eq, length-append xs (sign_at sign.Semicolon p ∷ []))
   plain_puts _ = omega arith
 
-  stmt_puts : {actor : Bool} {d : ℕ} {c c' : Counts} {all : List Marked} {rest body : Body} {e : Bool} → StmtRule actor d c c' all rest body e → Puts all rest body
+  stmt_puts : {home : RoutineKind} {d : ℕ} {c c' : Counts} {all : List Marked} {rest body : Body} {e : Bool} → StmtRule home d c c' all rest body e → Puts all rest body
   stmt_puts {d = d} {c = c} (block_stmt at xs b s eq) = omega (arith, block_makes b, ap length eq, statement_begun c d xs)
   stmt_puts {d = d} {c = c} (plain_stmt at xs r eq) = omega (arith, plain_puts r, ap length eq, statement_begun c d xs)
 
-  block_makes : {actor : Bool} {d : ℕ} {c c' : Counts} {all : List Marked} {body : Body} → BlockRule actor d c c' all body → Makes all body
+  block_makes : {home : RoutineKind} {d : ℕ} {c c' : Counts} {all : List Marked} {body : Body} → BlockRule home d c c' all body → Makes all body
   block_makes (braces p q xs r eq) = omega (arith, stmts_make r, ap length eq, length-append xs (sign_at sign.CloseCurly q ∷ []))
 
-  body_makes : {actor : Bool} {d : ℕ} {c c' : Counts} {all : List Marked} {body : Body} {e : Bool} → BodyRule actor d c c' all body e → Makes all body
+  body_makes : {home : RoutineKind} {d : ℕ} {c c' : Counts} {all : List Marked} {body : Body} {e : Bool} → BodyRule home d c c' all body e → Makes all body
   body_makes (block_body b) = block_makes b
   body_makes {d = d} {c = c} (one_body at xs r eq) = omega (arith, plain_puts r, ap length eq, statement_begun c d xs)
 
-  pub stmts_make : {actor : Bool} {d : ℕ} {c c' : Counts} {all : List Marked} {body : Body} → StmtsRule actor d c c' all body → Makes all body
+  pub stmts_make : {home : RoutineKind} {d : ℕ} {c c' : Counts} {all : List Marked} {body : Body} → StmtsRule home d c c' all body → Makes all body
   stmts_make no_stmts = omega arith
   stmts_make (more_stmts first more r rs eq) = omega (arith, stmt_puts r, stmts_make rs, ap length eq, length-append first more)
 
-  whens_make : {actor : Bool} {d n : ℕ} {c c' : Counts} {all : List Marked} {bs : Branches} → WhensRule actor d n c c' all bs → branch_variables bs ≤ length all
+  whens_make : {home : RoutineKind} {d n : ℕ} {c c' : Counts} {all : List Marked} {bs : Branches} → WhensRule home d n c c' all bs → branch_variables bs ≤ length all
   whens_make no_whens = omega arith
   whens_make (more_whens first more w ws eq) = omega (arith, when_puts w, whens_make ws, ap length eq, length-append first more)
 
-  when_puts : {actor : Bool} {d n : ℕ} {c c' : Counts} {all : List Marked} {rest bs : Branches} → WhenRule actor d n c c' all rest bs → PutsBranches all rest bs
+  when_puts : {home : RoutineKind} {d n : ℕ} {c c' : Counts} {all : List Marked} {rest bs : Branches} → WhenRule home d n c c' all rest bs → PutsBranches all rest bs
   when_puts (branch at p q xs body w b eq) = omega (arith, waiting_tokens w, body_makes b, ap length eq, length-append xs (sign_at sign.CloseRound q ∷ body))
 
 -- the parts of each `for` are simple, and each change has a target
@@ -206,5 +207,5 @@ has_part (ForStmt at i e t b k) h = h
 has_part (ModifyStmt at xs c k) h = h
 has_part _ h = tt
 
-pub stmts_parts : {actor : Bool} {d : ℕ} {c c' : Counts} {all : List Marked} {body : Body} → StmtsRule actor d c c' all body → HasParts body
+pub stmts_parts : {home : RoutineKind} {d : ℕ} {c c' : Counts} {all : List Marked} {body : Body} → StmtsRule home d c c' all body → HasParts body
 stmts_parts {body = body} r = each_follows IsFormed HasPart has_part body (stmts_formed r)

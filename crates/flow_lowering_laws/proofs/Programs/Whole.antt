@@ -8,12 +8,13 @@ use Rattle.flow_base.specs.declared.place.Place.{Place}
 use Rattle.flow_tree.specs.declared.limits.TheConstants.{TOKENS}
 use Rattle.flow_tree.specs.declared.token.Sign.TheVariants as sign
 use Rattle.flow_tree.specs.declared.decl.Program.{Program}
+use Rattle.flow_tree.specs.declared.decl.RoutineKind.{RoutineKind}
 use Rattle.flow_tree.specs.Tree.{TypeTree}
 use Rattle.flow_tree.specs.Decls.{ParamTree, RoutineTree, DeclTree, StructDecl, FunctionDecl, ActorDecl, ProgramTree}
 use Rattle.flow_tree.specs.DeclView.{program_of}
 use Rattle.flow_tree.specs.GrammarToken.{Declaration, Node, Variable, Marked, begin, spots_of}
 use Rattle.flow_tree.specs.Grammar.{sign_at, name_at}
-use Rattle.flow_tree.specs.GrammarDecl.{ParamRule, param, MoreParamsRule, end_params, more_params, ParamsRule, no_params, some_params, RoutineRule, routine, DeclRule, record_decl, function_decl, actor_decl, DeclsRule, no_decls, more_decls, ProgramRule, program}
+use Rattle.flow_tree.specs.GrammarDecl.{ParamRule, param, MoreParamsRule, end_params, more_params, ParamsRule, no_params, some_params, RoutineRule, routine, actor, void_actor, DeclRule, record_decl, function_decl, actor_decl, DeclsRule, no_decls, more_decls, ProgramRule, program}
 use Rattle.flow_ast.specs.Slots.{param_slot, body_slots, slots_of}
 use Rattle.flow_meaning.specs.Evaluating.{Names}
 use Rattle.flow_meaning.specs.Source.{names_of, actors_in}
@@ -64,7 +65,7 @@ params_few : {all : List Marked} {ps : List ParamTree} → ParamsRule all ps →
 params_few no_params = omega arith
 params_few (some_params first more f r eq) = omega (arith, one_param f, params_after r, ap length eq, length-append first more)
 
-routine_formed : {actor : Bool} {at : Place} {t : TypeTree} {all : List Marked} {a : RoutineTree} → RoutineRule actor at t all a → Formed (length all) a
+routine_formed : {home : RoutineKind} {at : Place} {t : TypeTree} {all : List Marked} {a : RoutineTree} → RoutineRule home at t all a → Formed (length all) a
 routine_formed (routine p q r close x params xs ps b eq) =
     let m = stmts_make b in
     record {
@@ -81,10 +82,11 @@ routine_formed (routine p q r close x params xs ps b eq) =
 
 decl_formed : {all : List Marked} {d : DeclTree} → DeclRule all d → EachActor (Formed (length all)) (d ∷ [])
 decl_formed (record_decl r) = tt
-decl_formed (function_decl at of xs t f eq s) = tt
-decl_formed (actor_decl at p q r of xs t f eq) =
+decl_formed (function_decl f) = tt
+decl_formed (actor_decl (actor at p q r of xs t f eq)) =
     let m = routine_formed f in
     (record { parts = m.parts; few = omega (arith, m.few, ap length eq, length-append of (sign_at sign.Greater r ∷ xs)) }, tt)
+decl_formed (actor_decl (void_actor at p xs f eq)) = let m = routine_formed f in (record { parts = m.parts; few = omega (arith, m.few, ap length eq) }, tt)
 
 with_first : (P : RoutineTree → Type 0) (d : DeclTree) (ds : List DeclTree) → EachActor P (d ∷ []) → EachActor P ds → EachActor P (d ∷ ds)
 with_first P (StructDecl r) ds h k = k

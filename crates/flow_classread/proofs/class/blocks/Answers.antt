@@ -21,7 +21,7 @@ items-init c =
       omega (arith, c.in_ok-first.ensures.moves.0),
       c.in_ok-first.ensures.moves.1,
       omega (arith, c.in_ok-first.ensures.moves.0),
-      blocks_init t c.args.at c.requires.within c.in_ok-first.at 1
+      blocks_init t c.args.at c.requires.within c.args.version c.in_ok-first.at 1
           c.push.new.self.items c.in_ok-first.first refl q c.in_ok-first.ensures.reads,
     )
 
@@ -30,7 +30,7 @@ items-preserved c =
     let t = c.args.tokens.now in
     let i = c.items.invariant in
     let e : c.items.n + 1 ≡ suc c.items.n = omega arith in
-    let l = each_step BlockRule (NumberedRule BlockRule) (IsWord (codes "block")) (λ k. none) (numbered_cons BlockRule) (numbered_cut BlockRule) block_starts block_of t c.items.n c.items.blocks.items
+    let l = each_step (BlockRule c.args.version) (NumberedRule (BlockRule c.args.version)) (IsWord (codes "block")) (λ k. none) (numbered_cons (BlockRule c.args.version)) (numbered_cut (BlockRule c.args.version)) (block_starts c.args.version) block_of t c.items.n c.items.blocks.items
     i.3 (c.items.n + 1) c.in_ok-next.to c.push-in-items.new.self.items c.in_ok-next.next
     (first_is (IsWord (codes "block")) (token_at t.spots.items c.items.at) (token.Name (codes "block")) (c.items-test.ensures.says.0 refl) refl) e c.in_ok-push-2.ensures.items
     c.in_ok-next.ensures.reads in
@@ -40,17 +40,17 @@ pub returns-in_err-next-clause-reads : goal.returns-in_err-next-clause-reads
 returns-in_err-next-clause-reads c =
     let t = c.args.tokens.now in
     let p = err_from_is_err_and c.from_residual-in_err-next.result c.from_residual-in_err-next.ensures.1 in
-    rw (p.1, p.2) (each_fails BlockRule (NumberedRule BlockRule) (IsWord (codes "block")) (λ k. none) (numbered_cons BlockRule) (numbered_cut BlockRule) block_starts t c.items.n c.items.invariant.3
+    rw (p.1, p.2) (each_fails (BlockRule c.args.version) (NumberedRule (BlockRule c.args.version)) (IsWord (codes "block")) (λ k. none) (numbered_cons (BlockRule c.args.version)) (numbered_cut (BlockRule c.args.version)) (block_starts c.args.version) t c.items.n c.items.invariant.3
     (first_is (IsWord (codes "block")) (token_at t.spots.items c.items.at) (token.Name (codes "block")) (c.items-test.ensures.says.0 refl) refl) _ c.in_err-next.ensures.reads)
 
 pub returns-clause-reads : goal.returns-clause-reads
 returns-clause-reads c =
     let t = c.args.tokens.now in
-    each_end BlockRule (NumberedRule BlockRule) (IsWord (codes "block")) (λ k. none) (numbered_cons BlockRule) (numbered_cut BlockRule) block_starts block_of t c.items.n c.items.blocks.items
+    each_end (BlockRule c.args.version) (NumberedRule (BlockRule c.args.version)) (IsWord (codes "block")) (λ k. none) (numbered_cons (BlockRule c.args.version)) (numbered_cut (BlockRule c.args.version)) (block_starts c.args.version) block_of t c.items.n c.items.blocks.items
     c.items.invariant.3 (λ h. not_true (c.items-test.ensures.says.1 (is_first (token_at t.spots.items c.items.at) (token.Name (codes "block")) h)))
 
 pub returns-in_err-first-clause-reads : goal.returns-in_err-first-clause-reads
 returns-in_err-first-clause-reads c =
     let t = c.args.tokens.now in
     let p = err_from_is_err_and c.from_residual.result c.from_residual.ensures.1 in
-    rw (p.1, p.2) (first_fails OF_CLASS_TEXT t (first_block t c.args.at c.requires.within) (blocks_left t c.args.at c.requires.within) _ c.in_err-first.ensures.reads)
+    rw (p.1, p.2) (first_fails OF_CLASS_TEXT t (first_block t c.args.at c.requires.within c.args.version) (blocks_left t c.args.at c.requires.within c.args.version) _ c.in_err-first.ensures.reads)

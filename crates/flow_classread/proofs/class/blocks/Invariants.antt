@@ -13,7 +13,7 @@ use Rattle.flow_classread.proofs.class.blocks.Given as goal
 
 abbrev pub invariant-items : goal.invariant-items
 invariant-items l =
-    (l.fn.at < l.at) × (l.at ≤ length l.tokens.spots.items) × (l.n ≤ l.at) × Leaves OF_CLASS_TEXT Blocks (NotBefore (token.Name (codes "block"))) (NumberedRule BlockRule l.n)
+    (l.fn.at < l.at) × (l.at ≤ length l.tokens.spots.items) × (l.n ≤ l.at) × Leaves OF_CLASS_TEXT (Blocks l.fn.version) (NotBefore (token.Name (codes "block"))) (NumberedRule (BlockRule l.fn.version) l.n)
     (NotFirst (IsWord (codes "block"))) (λ ys. map block_of l.blocks.items ++ ys) l.tokens.spots.items l.fn.at l.at
 
 abbrev pub decreases-items : goal.decreases-items

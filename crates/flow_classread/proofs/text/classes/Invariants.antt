@@ -10,7 +10,7 @@ use Rattle.flow_classread.proofs.text.classes.Given as goal
 
 abbrev pub invariant-items : goal.invariant-items
 invariant-items l =
-    (l.fn.at ≤ l.at) × (l.at ≤ length l.tokens.spots.items) × Leaves OF_CLASS_TEXT ClassesRule AtEnd ClassesRule (NotFirst All) (λ ys. map class_of l.classes.items ++ ys) l.tokens.spots.items l.fn.at
+    (l.fn.at ≤ l.at) × (l.at ≤ length l.tokens.spots.items) × Leaves OF_CLASS_TEXT (ClassesRule l.fn.version) AtEnd (ClassesRule l.fn.version) (NotFirst All) (λ ys. map class_of l.classes.items ++ ys) l.tokens.spots.items l.fn.at
     l.at
 
 abbrev pub decreases-items : goal.decreases-items

@@ -9,7 +9,7 @@ use Rattle.flow_classread.proofs.text.rest.Given as goal
 
 abbrev pub invariant-items : goal.invariant-items
 invariant-items l =
-    (l.fn.at ≤ l.at) × (l.at ≤ length l.tokens.spots.items) × Leaves OF_CLASS_TEXT Rest AtEnd Things AtEnd (rest_before l.records.items l.functions.items) l.tokens.spots.items l.fn.at l.at
+    (l.fn.at ≤ l.at) × (l.at ≤ length l.tokens.spots.items) × Leaves OF_CLASS_TEXT (Rest l.fn.version) AtEnd (Things l.fn.version) AtEnd (rest_before l.records.items l.functions.items) l.tokens.spots.items l.fn.at l.at
 
 abbrev pub decreases-items : goal.decreases-items
 decreases-items l = length l.tokens.spots.items - l.at

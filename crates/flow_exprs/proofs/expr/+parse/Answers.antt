@@ -1,12 +1,12 @@
 use Rattle.std.proofs.Common.{◌≡◌, ◌+◌, max, refl, sym, ap, ◌∙◌, subst, arith}
 use Rattle.std.proofs.lemmas.Result.{err_from_is_err_and}
 use Rattle.flow_tree.specs.declared.expr.Op.TheVariants.{Sub}
-use Rattle.flow_tree.specs.Tree.{ByName, NotExpr, NegExpr, BinaryExpr, ParenExpr, FieldExpr, MethodExpr, CallExpr, VarExpr}
+use Rattle.flow_tree.specs.Tree.{ByName, indexed, NotExpr, NegExpr, BinaryExpr, ParenExpr, FieldExpr, MethodExpr, CallExpr, VarExpr}
 use Rattle.flow_tree.specs.Grammar.{level}
 use Rattle.flow_tree.specs.View.{expr_of, exprs_of}
 use Rattle.flow_exprs.specs.declared.kind.Kind.TheVariants as kind
 use Rattle.flow_exprs.specs.Answer.{ReadsExpr, ReadsArgs, Refuses}
-use Rattle.flow_exprs.proofs.ExprSteps.{not_true, too_deep, at_the_end, op_is, name_reads, call_reads, call_refused, bracket_reads, bracket_refused, bracket_open, not_reads, minus_reads, not_refused, minus_refused, dot_deep, dot_short, field_goes, method_goes, method_refused, right_deep, right_goes, right_refused, goes_on, goes_refused, Args, args_begin, args_none, args_more_is, args_end_is, args_bad, exprs_push, reads_is, goes_is, signs_refused, others_refused}
+use Rattle.flow_exprs.proofs.ExprSteps.{not_true, too_deep, at_the_end, op_is, name_reads, call_reads, call_refused, bracket_reads, bracket_refused, bracket_open, not_reads, minus_reads, not_refused, minus_refused, dot_deep, dot_short, field_goes, method_goes, method_refused, square_deep, index_refused, index_open, index_goes, right_deep, right_goes, right_refused, goes_on, goes_refused, Args, args_begin, args_none, args_more_is, args_end_is, args_bad, exprs_push, reads_is, goes_is, signs_refused, others_refused}
 use Rattle.flow_exprs.proofs.expr.+parse.Goals as goal
 
 pub arguments-returns-then-is_at : goal.arguments-returns-then-is_at
@@ -148,32 +148,52 @@ with_right-returns t c =
     (right_goes c.args.spots.now c.args.left.to c.args.depth c.args.op (expr_of c.args.left.expr) (expr_of c.in_ok-right.right.expr) c.args.left.high c.in_ok-right.right.high c.in_ok-right.right.to
     c.requires.sign c.requires.measured c.if-depth-left-gt-DEPTH.false r)
 
-pub with_suffix-returns-then-depth-left-gt-DEPTH : goal.with_suffix-returns-then-depth-left-gt-DEPTH
-with_suffix-returns-then-depth-left-gt-DEPTH t c = λ K f. dot_deep c.args.spots.now c.args.left.to c.args.depth (expr_of c.args.left.expr) K c.requires.dot (omega arith) f.depth_is
+pub with_dot-returns-then-depth-left-gt-DEPTH : goal.with_dot-returns-then-depth-left-gt-DEPTH
+with_dot-returns-then-depth-left-gt-DEPTH t c = λ K f. dot_deep c.args.spots.now c.args.left.to c.args.depth (expr_of c.args.left.expr) K c.requires.dot (omega arith) f.depth_is
 
-pub with_suffix-returns-in_default : goal.with_suffix-returns-in_default
-with_suffix-returns-in_default t c = λ K f. dot_short c.args.spots.now c.args.left.to c.args.depth (expr_of c.args.left.expr) K c.requires.dot (omega arith) f.depth_is f.fits_is
+pub with_dot-returns-in_default : goal.with_dot-returns-in_default
+with_dot-returns-in_default t c = λ K f. dot_short c.args.spots.now c.args.left.to c.args.depth (expr_of c.args.left.expr) K c.requires.dot (omega arith) f.depth_is f.fits_is
     (sym c.in_ok-name.ensures ∙ c.in_default.is)
 
-pub with_suffix-returns-then-not-is_at : goal.with_suffix-returns-then-not-is_at
-with_suffix-returns-then-not-is_at t c =
+pub with_dot-returns-then-not-is_at : goal.with_dot-returns-then-not-is_at
+with_dot-returns-then-not-is_at t c =
     goes_is c.args.spots.now c.args.left.to 6 c.args.depth 8 (expr_of c.args.left.expr) (expr_of c.in_ok-field.field-0) (FieldExpr (expr_of c.args.left.expr) c.in-Some.name) (c.args.left.high + 1)
     (c.args.left.high + 1) (c.args.left.to + 2) c.in_ok-field.ensures refl
     (field_goes c.args.spots.now c.args.left.to c.args.depth (expr_of c.args.left.expr) c.args.left.high c.in-Some.name c.requires.dot c.requires.measured c.if-depth-left-gt-DEPTH.false
     (sym c.in_ok-name.ensures ∙ c.in-Some.is) (λ e. not_true (c.if-not-is_at.ensures.kind.1 e)))
 
-pub with_suffix-returns-in_err-read : goal.with_suffix-returns-in_err-read
-with_suffix-returns-in_err-read t c =
+pub with_dot-returns-in_err-read : goal.with_dot-returns-in_err-read
+with_dot-returns-in_err-read t c =
     let p = err_from_is_err_and c.from_residual-in_err-read.result c.from_residual-in_err-read.ensures.1 in
     let n = sym c.in_ok-name.ensures ∙ c.in-Some.is in
     rw (p.1, p.2) (λ K f. method_refused c.args.spots.now c.args.left.to c.args.depth (expr_of c.args.left.expr) c.in-Some.name c.in_err-read.field-0.0 K c.requires.dot (omega arith) n
     (c.if-not-is_at.ensures.kind.0 refl) c.in_err-read.ensures f)
 
-pub with_suffix-returns : goal.with_suffix-returns
-with_suffix-returns t c =
+pub with_dot-returns : goal.with_dot-returns
+with_dot-returns t c =
     goes_is c.args.spots.now c.args.left.to 6 c.args.depth 8 (expr_of c.args.left.expr) (expr_of c.in_ok-method.field-0)
     (MethodExpr (expr_of c.args.left.expr) (ByName c.in-Some.name) (exprs_of c.in_ok-read.read.args.items)) (c.max.result + 1)
     (max c.args.left.high c.in_ok-read.read.high + 1) c.in_ok-read.read.to c.in_ok-method.ensures (ap (λ x. x + 1) c.max.ensures)
     (method_goes c.args.spots.now c.args.left.to c.args.depth (expr_of c.args.left.expr) c.args.left.high c.in-Some.name
     (exprs_of c.in_ok-read.read.args.items) c.in_ok-read.read.high c.in_ok-read.read.to c.requires.dot c.requires.measured c.if-depth-left-gt-DEPTH.false (sym c.in_ok-name.ensures ∙ c.in-Some.is)
     (c.if-not-is_at.ensures.kind.0 refl) c.in_ok-read.ensures)
+
+pub with_index-returns-then-depth-base-gt-DEPTH : goal.with_index-returns-then-depth-base-gt-DEPTH
+with_index-returns-then-depth-base-gt-DEPTH t c = λ K f. square_deep c.args.spots.now c.args.base.to c.args.depth (expr_of c.args.base.expr) K c.requires.square (omega arith) f.depth_is
+
+pub with_index-returns-in_err-at : goal.with_index-returns-in_err-at
+with_index-returns-in_err-at t c =
+    let p = err_from_is_err_and c.from_residual.result c.from_residual.ensures.1 in
+    rw (p.1, p.2) (λ K f. index_refused c.args.spots.now c.args.base.to c.args.depth (expr_of c.args.base.expr) c.in_err-at.field-0.0 K c.requires.square (omega arith) c.in_err-at.ensures f)
+
+pub with_index-returns-then-not-is_at : goal.with_index-returns-then-not-is_at
+with_index-returns-then-not-is_at t c = λ K f. index_open c.args.spots.now c.args.base.to c.args.depth (expr_of c.args.base.expr) (expr_of c.in_ok-at.at.expr) c.in_ok-at.at.high c.in_ok-at.at.to K
+    c.requires.square (omega arith) c.in_ok-at.ensures (λ e. not_true (c.if-not-is_at.ensures.kind.1 e)) f
+
+pub with_index-returns : goal.with_index-returns
+with_index-returns t c =
+    goes_is c.args.spots.now c.args.base.to 6 c.args.depth 8 (expr_of c.args.base.expr) (expr_of c.in_ok-index.field-0)
+    (indexed (expr_of c.args.base.expr) (expr_of c.in_ok-at.at.expr)) (c.max.result + 1) (max c.args.base.high c.in_ok-at.at.high + 1) (c.in_ok-at.at.to + 1)
+    c.in_ok-index.ensures (ap (λ x. x + 1) c.max.ensures)
+    (index_goes c.args.spots.now c.args.base.to c.args.depth (expr_of c.args.base.expr) (expr_of c.in_ok-at.at.expr) c.args.base.high c.in_ok-at.at.high c.in_ok-at.at.to
+    c.requires.square c.requires.measured c.if-depth-base-gt-DEPTH.false c.in_ok-at.ensures (c.if-not-is_at.ensures.kind.0 refl))

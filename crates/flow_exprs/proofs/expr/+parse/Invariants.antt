@@ -34,8 +34,11 @@ decreases-minus l = 8 * (length l.spots.now - l.from)
 abbrev pub decreases-with_right : goal.decreases-with_right
 decreases-with_right l = 8 * (length l.spots.now - l.left.to)
 
-abbrev pub decreases-with_suffix : goal.decreases-with_suffix
-decreases-with_suffix l = 8 * (length l.spots.now - l.left.to)
+abbrev pub decreases-with_dot : goal.decreases-with_dot
+decreases-with_dot l = 8 * (length l.spots.now - l.left.to)
+
+abbrev pub decreases-with_index : goal.decreases-with_index
+decreases-with_index l = 8 * (length l.spots.now - l.base.to)
 
 abbrev pub invariant-expression-loop-op : goal.invariant-expression-loop-op
 invariant-expression-loop-op l = ReadsExpr l.spots l.from l.least l.depth 7 (expr_of l.left.expr) l.left.high l.left.to
@@ -43,11 +46,11 @@ invariant-expression-loop-op l = ReadsExpr l.spots l.from l.least l.depth 7 (exp
 abbrev pub decreases-expression-loop-op : goal.decreases-expression-loop-op
 decreases-expression-loop-op l = length l.spots - l.left.to
 
-abbrev pub invariant-postfix-dots : goal.invariant-postfix-dots
-invariant-postfix-dots l = ReadsExpr l.spots l.from 6 l.depth 8 (expr_of l.left.expr) l.left.high l.left.to
+abbrev pub invariant-postfix-suffixes : goal.invariant-postfix-suffixes
+invariant-postfix-suffixes l = ReadsExpr l.spots l.from 6 l.depth 8 (expr_of l.left.expr) l.left.high l.left.to
 
-abbrev pub decreases-postfix-dots : goal.decreases-postfix-dots
-decreases-postfix-dots l = length l.spots - l.left.to
+abbrev pub decreases-postfix-suffixes : goal.decreases-postfix-suffixes
+decreases-postfix-suffixes l = length l.spots - l.left.to
 
 abbrev pub invariant-arguments-loop-args : goal.invariant-arguments-loop-args
 invariant-arguments-loop-args l = Args l.spots l.from l.depth (exprs_of l.args.items) l.high l.at

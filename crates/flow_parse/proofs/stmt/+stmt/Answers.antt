@@ -30,7 +30,7 @@ pub block-returns-in_err-at-clause-reads : goal.block-returns-in_err-at-clause-r
 block-returns-in_err-at-clause-reads h c =
     let t = c.args.tokens.now in
     let s = t.spots.items in
-    let a = c.args.around.actor in
+    let a = c.args.around.routine in
     let d = c.args.around.depth in
     let k = counts_of c.args.around.counts in
     let l = narrow c.args.around.limits s refl (block_turns a d k (token_at s c.args.at)) (nothing c.args.around.limits s (Block a d k) Any c.args.at c.requires.within) in
@@ -42,7 +42,7 @@ pub block-returns-clause-reads : goal.block-returns-clause-reads
 block-returns-clause-reads h c =
     let t = c.args.tokens.now in
     let s = t.spots.items in
-    let a = c.args.around.actor in
+    let a = c.args.around.routine in
     let d = c.args.around.depth in
     let k = counts_of c.args.around.counts in
     let l = narrow c.args.around.limits s refl (block_turns a d k (token_at s c.args.at)) (nothing c.args.around.limits s (Block a d k) Any c.args.at c.requires.within) in
@@ -53,7 +53,7 @@ pub body-returns-in_err-read-clause-reads : goal.body-returns-in_err-read-clause
 body-returns-in_err-read-clause-reads h c =
     let t = c.args.tokens.now in
     let s = t.spots.items in
-    let a = c.args.around.actor in
+    let a = c.args.around.routine in
     let d = c.args.around.depth in
     let k = counts_of c.args.around.counts in
     let l = narrow c.args.around.limits s (c.if-is_sign.ensures.sign.0 refl) (body_block a d k) (nothing c.args.around.limits s (BodyPart a d k) NoElse c.args.at c.requires.within) in
@@ -65,7 +65,7 @@ pub body-returns-then-is_sign-clause-reads : goal.body-returns-then-is_sign-clau
 body-returns-then-is_sign-clause-reads h c =
     let t = c.args.tokens.now in
     let s = t.spots.items in
-    let a = c.args.around.actor in
+    let a = c.args.around.routine in
     let d = c.args.around.depth in
     let k = counts_of c.args.around.counts in
     let l = narrow c.args.around.limits s (c.if-is_sign.ensures.sign.0 refl) (body_block a d k) (nothing c.args.around.limits s (BodyPart a d k) NoElse c.args.at c.requires.within) in
@@ -74,7 +74,7 @@ body-returns-then-is_sign-clause-reads h c =
 pub body-returns-then-not-begins_stmt-clause-reads : goal.body-returns-then-not-begins_stmt-clause-reads
 body-returns-then-not-begins_stmt-clause-reads h c =
     let t = c.args.tokens.now in
-    let a = c.args.around.actor in
+    let a = c.args.around.routine in
     let d = c.args.around.depth in
     let k = counts_of c.args.around.counts in
     rw c.refused.ensures (body_none c.args.around.limits t c.args.at a d k (λ e. not_true (c.if-not-begins_stmt.ensures.begins.1 e)))
@@ -82,7 +82,7 @@ body-returns-then-not-begins_stmt-clause-reads h c =
 pub body-returns-in_err-counts-clause-reads : goal.body-returns-in_err-counts-clause-reads
 body-returns-in_err-counts-clause-reads h c =
     let t = c.args.tokens.now in
-    let a = c.args.around.actor in
+    let a = c.args.around.routine in
     let d = c.args.around.depth in
     let k = counts_of c.args.around.counts in
     let e = c.in_err-counts.field-0.0 in
@@ -94,7 +94,7 @@ pub body-returns-in_err-read-2-clause-reads : goal.body-returns-in_err-read-2-cl
 body-returns-in_err-read-2-clause-reads h c =
     let t = c.args.tokens.now in
     let s = t.spots.items in
-    let a = c.args.around.actor in
+    let a = c.args.around.routine in
     let d = c.args.around.depth in
     let k = counts_of c.args.around.counts in
     let l = narrow c.args.around.limits s refl (body_plain a d k (token_at s c.args.at) (λ e. not_true (c.if-is_sign.ensures.sign.1 e)))
@@ -108,7 +108,7 @@ pub body-returns-clause-reads : goal.body-returns-clause-reads
 body-returns-clause-reads h c =
     let t = c.args.tokens.now in
     let s = t.spots.items in
-    let a = c.args.around.actor in
+    let a = c.args.around.routine in
     let d = c.args.around.depth in
     let k = counts_of c.args.around.counts in
     let l = narrow c.args.around.limits s refl (body_plain a d k (token_at s c.args.at) (λ e. not_true (c.if-is_sign.ensures.sign.1 e)))
@@ -124,7 +124,7 @@ pub choose-returns-in_err-at-clause-reads : goal.choose-returns-in_err-at-clause
 choose-returns-in_err-at-clause-reads h c =
     let t = c.args.tokens.now in
     let s = t.spots.items in
-    let a = c.args.around.actor in
+    let a = c.args.around.routine in
     let d = c.args.around.depth in
     let k = counts_of c.args.around.counts in
     let l = then_reads c.args.around.limits s (choose_word a (suc d) k) (choose_left c.args.around.limits t c.args.at a d k c.requires.within c.requires.here)
@@ -137,7 +137,7 @@ pub choose-returns-in_err-read-clause-reads : goal.choose-returns-in_err-read-cl
 choose-returns-in_err-read-clause-reads h c =
     let t = c.args.tokens.now in
     let s = t.spots.items in
-    let a = c.args.around.actor in
+    let a = c.args.around.routine in
     let d = c.args.around.depth in
     let k = counts_of c.args.around.counts in
     let l = then_reads c.args.around.limits s (choose_word a (suc d) k) (choose_left c.args.around.limits t c.args.at a d k c.requires.within c.requires.here)
@@ -151,7 +151,7 @@ pub choose-returns-clause-reads : goal.choose-returns-clause-reads
 choose-returns-clause-reads h c =
     let t = c.args.tokens.now in
     let s = t.spots.items in
-    let a = c.args.around.actor in
+    let a = c.args.around.routine in
     let d = c.args.around.depth in
     let k = counts_of c.args.around.counts in
     let l = then_reads c.args.around.limits s (choose_word a (suc d) k) (choose_left c.args.around.limits t c.args.at a d k c.requires.within c.requires.here)
@@ -163,7 +163,7 @@ pub for_stmt-returns-in_err-at-clause-reads : goal.for_stmt-returns-in_err-at-cl
 for_stmt-returns-in_err-at-clause-reads h c =
     let t = c.args.tokens.now in
     let s = t.spots.items in
-    let a = c.args.around.actor in
+    let a = c.args.around.routine in
     let d = c.args.around.depth in
     let k = counts_of c.args.around.counts in
     let l1 = then_reads c.args.around.limits s (for_word a (suc d) k) (for_left c.args.around.limits t c.args.at a d k c.requires.within c.requires.here)
@@ -176,7 +176,7 @@ pub for_stmt-returns-in_err-start-clause-reads : goal.for_stmt-returns-in_err-st
 for_stmt-returns-in_err-start-clause-reads h c =
     let t = c.args.tokens.now in
     let s = t.spots.items in
-    let a = c.args.around.actor in
+    let a = c.args.around.routine in
     let d = c.args.around.depth in
     let k = counts_of c.args.around.counts in
     let l1 = then_reads c.args.around.limits s (for_word a (suc d) k) (for_left c.args.around.limits t c.args.at a d k c.requires.within c.requires.here)
@@ -190,7 +190,7 @@ pub for_stmt-returns-in_err-test-clause-reads : goal.for_stmt-returns-in_err-tes
 for_stmt-returns-in_err-test-clause-reads h c =
     let t = c.args.tokens.now in
     let s = t.spots.items in
-    let a = c.args.around.actor in
+    let a = c.args.around.routine in
     let d = c.args.around.depth in
     let k = counts_of c.args.around.counts in
     let l1 = then_reads c.args.around.limits s (for_word a (suc d) k) (for_left c.args.around.limits t c.args.at a d k c.requires.within c.requires.here)
@@ -207,7 +207,7 @@ pub for_stmt-returns-in_err-next-clause-reads : goal.for_stmt-returns-in_err-nex
 for_stmt-returns-in_err-next-clause-reads h c =
     let t = c.args.tokens.now in
     let s = t.spots.items in
-    let a = c.args.around.actor in
+    let a = c.args.around.routine in
     let d = c.args.around.depth in
     let k = counts_of c.args.around.counts in
     let l1 = then_reads c.args.around.limits s (for_word a (suc d) k) (for_left c.args.around.limits t c.args.at a d k c.requires.within c.requires.here)
@@ -224,7 +224,7 @@ pub for_stmt-returns-in_err-read-clause-reads : goal.for_stmt-returns-in_err-rea
 for_stmt-returns-in_err-read-clause-reads h c =
     let t = c.args.tokens.now in
     let s = t.spots.items in
-    let a = c.args.around.actor in
+    let a = c.args.around.routine in
     let d = c.args.around.depth in
     let k = counts_of c.args.around.counts in
     let l1 = then_reads c.args.around.limits s (for_word a (suc d) k) (for_left c.args.around.limits t c.args.at a d k c.requires.within c.requires.here)
@@ -243,7 +243,7 @@ pub for_stmt-returns-clause-reads : goal.for_stmt-returns-clause-reads
 for_stmt-returns-clause-reads h c =
     let t = c.args.tokens.now in
     let s = t.spots.items in
-    let a = c.args.around.actor in
+    let a = c.args.around.routine in
     let d = c.args.around.depth in
     let k = counts_of c.args.around.counts in
     let l1 = then_reads c.args.around.limits s (for_word a (suc d) k) (for_left c.args.around.limits t c.args.at a d k c.requires.within c.requires.here)
@@ -260,7 +260,7 @@ pub if_stmt-returns-in_err-test-clause-reads : goal.if_stmt-returns-in_err-test-
 if_stmt-returns-in_err-test-clause-reads h c =
     let t = c.args.tokens.now in
     let s = t.spots.items in
-    let a = c.args.around.actor in
+    let a = c.args.around.routine in
     let d = c.args.around.depth in
     let k = counts_of c.args.around.counts in
     let l1 = then_reads c.args.around.limits s (if_word a (suc d) k) (if_left c.args.around.limits t c.args.at a d k c.requires.within c.requires.here)
@@ -273,7 +273,7 @@ pub if_stmt-returns-in_err-then-clause-reads : goal.if_stmt-returns-in_err-then-
 if_stmt-returns-in_err-then-clause-reads h c =
     let t = c.args.tokens.now in
     let s = t.spots.items in
-    let a = c.args.around.actor in
+    let a = c.args.around.routine in
     let d = c.args.around.depth in
     let k = counts_of c.args.around.counts in
     let l1 = then_reads c.args.around.limits s (if_word a (suc d) k) (if_left c.args.around.limits t c.args.at a d k c.requires.within c.requires.here)
@@ -287,7 +287,7 @@ pub if_stmt-returns-then-then-clause-reads : goal.if_stmt-returns-then-then-clau
 if_stmt-returns-then-then-clause-reads h c =
     let t = c.args.tokens.now in
     let s = t.spots.items in
-    let a = c.args.around.actor in
+    let a = c.args.around.routine in
     let d = c.args.around.depth in
     let k = counts_of c.args.around.counts in
     let l1 = then_reads c.args.around.limits s (if_word a (suc d) k) (if_left c.args.around.limits t c.args.at a d k c.requires.within c.requires.here)
@@ -306,7 +306,7 @@ pub if_stmt-returns-in_err-other-clause-reads : goal.if_stmt-returns-in_err-othe
 if_stmt-returns-in_err-other-clause-reads h c =
     let t = c.args.tokens.now in
     let s = t.spots.items in
-    let a = c.args.around.actor in
+    let a = c.args.around.routine in
     let d = c.args.around.depth in
     let k = counts_of c.args.around.counts in
     let l1 = then_reads c.args.around.limits s (if_word a (suc d) k) (if_left c.args.around.limits t c.args.at a d k c.requires.within c.requires.here)
@@ -325,7 +325,7 @@ pub if_stmt-returns-clause-reads : goal.if_stmt-returns-clause-reads
 if_stmt-returns-clause-reads h c =
     let t = c.args.tokens.now in
     let s = t.spots.items in
-    let a = c.args.around.actor in
+    let a = c.args.around.routine in
     let d = c.args.around.depth in
     let k = counts_of c.args.around.counts in
     let l1 = then_reads c.args.around.limits s (if_word a (suc d) k) (if_left c.args.around.limits t c.args.at a d k c.requires.within c.requires.here)
@@ -342,7 +342,7 @@ pub loop_stmt-returns-in_err-read-clause-reads : goal.loop_stmt-returns-in_err-r
 loop_stmt-returns-in_err-read-clause-reads h c =
     let t = c.args.tokens.now in
     let s = t.spots.items in
-    let a = c.args.around.actor in
+    let a = c.args.around.routine in
     let d = c.args.around.depth in
     let k = counts_of c.args.around.counts in
     let l = then_reads c.args.around.limits s (body_link a (suc d) k (Tok (token.Word word.Loop))) (loop_left c.args.around.limits t c.args.at a d k c.requires.within c.requires.here)
@@ -355,7 +355,7 @@ pub loop_stmt-returns-clause-reads : goal.loop_stmt-returns-clause-reads
 loop_stmt-returns-clause-reads h c =
     let t = c.args.tokens.now in
     let s = t.spots.items in
-    let a = c.args.around.actor in
+    let a = c.args.around.routine in
     let d = c.args.around.depth in
     let k = counts_of c.args.around.counts in
     let l = then_reads c.args.around.limits s (body_link a (suc d) k (Tok (token.Word word.Loop))) (loop_left c.args.around.limits t c.args.at a d k c.requires.within c.requires.here)
@@ -366,7 +366,7 @@ pub while_stmt-returns-in_err-test-clause-reads : goal.while_stmt-returns-in_err
 while_stmt-returns-in_err-test-clause-reads h c =
     let t = c.args.tokens.now in
     let s = t.spots.items in
-    let a = c.args.around.actor in
+    let a = c.args.around.routine in
     let d = c.args.around.depth in
     let k = counts_of c.args.around.counts in
     let l = then_reads c.args.around.limits s (while_word a (suc d) k) (while_left c.args.around.limits t c.args.at a d k c.requires.within c.requires.here)
@@ -379,7 +379,7 @@ pub while_stmt-returns-in_err-read-clause-reads : goal.while_stmt-returns-in_err
 while_stmt-returns-in_err-read-clause-reads h c =
     let t = c.args.tokens.now in
     let s = t.spots.items in
-    let a = c.args.around.actor in
+    let a = c.args.around.routine in
     let d = c.args.around.depth in
     let k = counts_of c.args.around.counts in
     let l = then_reads c.args.around.limits s (while_word a (suc d) k) (while_left c.args.around.limits t c.args.at a d k c.requires.within c.requires.here)
@@ -393,7 +393,7 @@ pub while_stmt-returns-clause-reads : goal.while_stmt-returns-clause-reads
 while_stmt-returns-clause-reads h c =
     let t = c.args.tokens.now in
     let s = t.spots.items in
-    let a = c.args.around.actor in
+    let a = c.args.around.routine in
     let d = c.args.around.depth in
     let k = counts_of c.args.around.counts in
     let l = then_reads c.args.around.limits s (while_word a (suc d) k) (while_left c.args.around.limits t c.args.at a d k c.requires.within c.requires.here)
@@ -405,7 +405,7 @@ pub plain-returns-in_err-read-clause-reads : goal.plain-returns-in_err-read-clau
 plain-returns-in_err-read-clause-reads h c =
     let t = c.args.tokens.now in
     let s = t.spots.items in
-    let a = c.args.around.actor in
+    let a = c.args.around.routine in
     let d = c.args.around.depth in
     let k = counts_of c.args.around.counts in
     let n = no_keyword (token_at s c.args.at) (λ e. not_true (c.if-is_word.ensures.word.1 e)) (λ e. not_true (c.if-is_word-2.ensures.word.1 e)) (λ e. not_true (c.if-is_word-3.ensures.word.1 e))
@@ -421,7 +421,7 @@ pub plain-returns-clause-reads : goal.plain-returns-clause-reads
 plain-returns-clause-reads h c =
     let t = c.args.tokens.now in
     let s = t.spots.items in
-    let a = c.args.around.actor in
+    let a = c.args.around.routine in
     let d = c.args.around.depth in
     let k = counts_of c.args.around.counts in
     let n = no_keyword (token_at s c.args.at) (λ e. not_true (c.if-is_word.ensures.word.1 e)) (λ e. not_true (c.if-is_word-2.ensures.word.1 e)) (λ e. not_true (c.if-is_word-3.ensures.word.1 e))
@@ -435,7 +435,7 @@ plain-returns-clause-reads h c =
 pub stmt-returns-then-not-begins_stmt-clause-reads : goal.stmt-returns-then-not-begins_stmt-clause-reads
 stmt-returns-then-not-begins_stmt-clause-reads h c =
     let t = c.args.tokens.now in
-    let a = c.args.around.actor in
+    let a = c.args.around.routine in
     let d = c.args.around.depth in
     let k = counts_of c.args.around.counts in
     rw c.refused.ensures (one_none c.args.around.limits t c.args.at a d k (λ e. not_true (c.if-not-begins_stmt.ensures.begins.1 e)))
@@ -443,7 +443,7 @@ stmt-returns-then-not-begins_stmt-clause-reads h c =
 pub stmt-returns-in_err-counts-clause-reads : goal.stmt-returns-in_err-counts-clause-reads
 stmt-returns-in_err-counts-clause-reads h c =
     let t = c.args.tokens.now in
-    let a = c.args.around.actor in
+    let a = c.args.around.routine in
     let d = c.args.around.depth in
     let k = counts_of c.args.around.counts in
     let e = c.in_err-counts.field-0.0 in
@@ -454,7 +454,7 @@ pub stmt-returns-then-not-is_sign-clause-reads : goal.stmt-returns-then-not-is_s
 stmt-returns-then-not-is_sign-clause-reads h c =
     let t = c.args.tokens.now in
     let s = t.spots.items in
-    let a = c.args.around.actor in
+    let a = c.args.around.routine in
     let d = c.args.around.depth in
     let k = counts_of c.args.around.counts in
     let r = subst (λ i. Answer c.args.around.limits (Plain a d i) NoElse stmt_out (λ r. r.to) t c.args.at c.plain.result) c.in_ok-counts.ensures.one c.plain.ensures.reads in
@@ -467,7 +467,7 @@ pub stmt-returns-in_err-read-clause-reads : goal.stmt-returns-in_err-read-clause
 stmt-returns-in_err-read-clause-reads h c =
     let t = c.args.tokens.now in
     let s = t.spots.items in
-    let a = c.args.around.actor in
+    let a = c.args.around.routine in
     let d = c.args.around.depth in
     let k = counts_of c.args.around.counts in
     let l = narrow c.args.around.limits s (c.if-not-is_sign.ensures.sign.0 refl) (one_block a d k) (nothing c.args.around.limits s (One a d k) NoElse c.args.at c.requires.within) in
@@ -483,7 +483,7 @@ pub stmt-returns-clause-reads : goal.stmt-returns-clause-reads
 stmt-returns-clause-reads h c =
     let t = c.args.tokens.now in
     let s = t.spots.items in
-    let a = c.args.around.actor in
+    let a = c.args.around.routine in
     let d = c.args.around.depth in
     let k = counts_of c.args.around.counts in
     let l = narrow c.args.around.limits s (c.if-not-is_sign.ensures.sign.0 refl) (one_block a d k) (nothing c.args.around.limits s (One a d k) NoElse c.args.at c.requires.within) in
@@ -497,7 +497,7 @@ pub stmts-items-init : goal.stmts-items-init
 stmts-items-init h c =
     let t = c.args.tokens.now in
     let s = t.spots.items in
-    let a = c.args.around.actor in
+    let a = c.args.around.routine in
     let d = c.args.around.depth in
     let k = counts_of c.args.around.counts in
     let l = means c.args.around.limits s (closing_before c.new-body.result.items) (λ o. ap (λ z. closing_before z o) (sym c.new-body.ensures.items))
@@ -508,7 +508,7 @@ pub stmts-items-preserved : goal.stmts-items-preserved
 stmts-items-preserved h c =
     let t = c.args.tokens.now in
     let s = t.spots.items in
-    let a = c.args.around.actor in
+    let a = c.args.around.routine in
     let d = c.args.around.depth in
     let k = counts_of c.args.around.counts in
     let l = stmts_step c.args.around.limits s a d k c.args.at c.items.at c.in_ok-read.read.to (counts_of c.items.counts) c.in_ok-read.read.stmt
@@ -520,7 +520,7 @@ pub stmts-returns-in_err-read-clause-reads : goal.stmts-returns-in_err-read-clau
 stmts-returns-in_err-read-clause-reads h c =
     let t = c.args.tokens.now in
     let s = t.spots.items in
-    let a = c.args.around.actor in
+    let a = c.args.around.routine in
     let d = c.args.around.depth in
     let e = c.in_err-read.field-0.0 in
     let p = err_from_is_err_and c.from_residual.result c.from_residual.ensures.1 in
@@ -531,7 +531,7 @@ pub stmts-returns-clause-reads : goal.stmts-returns-clause-reads
 stmts-returns-clause-reads h c =
     let t = c.args.tokens.now in
     let s = t.spots.items in
-    let a = c.args.around.actor in
+    let a = c.args.around.routine in
     let d = c.args.around.depth in
     let k = counts_of c.args.around.counts in
     let f = c.items-test.ensures.sign.0 refl in
@@ -542,7 +542,7 @@ pub try_stmt-returns-in_err-inner-clause-reads : goal.try_stmt-returns-in_err-in
 try_stmt-returns-in_err-inner-clause-reads h c =
     let t = c.args.tokens.now in
     let s = t.spots.items in
-    let a = c.args.around.actor in
+    let a = c.args.around.routine in
     let d = c.args.around.depth in
     let k = counts_of c.args.around.counts in
     let l1 = then_reads c.args.around.limits s (try_word a (suc d) k) (try_left c.args.around.limits t c.args.at a d k c.requires.within c.requires.here)
@@ -555,7 +555,7 @@ pub try_stmt-returns-in_err-catch_at-clause-reads : goal.try_stmt-returns-in_err
 try_stmt-returns-in_err-catch_at-clause-reads h c =
     let t = c.args.tokens.now in
     let s = t.spots.items in
-    let a = c.args.around.actor in
+    let a = c.args.around.routine in
     let d = c.args.around.depth in
     let k = counts_of c.args.around.counts in
     let l1 = then_reads c.args.around.limits s (try_word a (suc d) k) (try_left c.args.around.limits t c.args.at a d k c.requires.within c.requires.here)
@@ -570,7 +570,7 @@ pub try_stmt-returns-in_err-handler-clause-reads : goal.try_stmt-returns-in_err-
 try_stmt-returns-in_err-handler-clause-reads h c =
     let t = c.args.tokens.now in
     let s = t.spots.items in
-    let a = c.args.around.actor in
+    let a = c.args.around.routine in
     let d = c.args.around.depth in
     let k = counts_of c.args.around.counts in
     let l1 = then_reads c.args.around.limits s (try_word a (suc d) k) (try_left c.args.around.limits t c.args.at a d k c.requires.within c.requires.here)
@@ -586,7 +586,7 @@ pub try_stmt-returns-clause-reads : goal.try_stmt-returns-clause-reads
 try_stmt-returns-clause-reads h c =
     let t = c.args.tokens.now in
     let s = t.spots.items in
-    let a = c.args.around.actor in
+    let a = c.args.around.routine in
     let d = c.args.around.depth in
     let k = counts_of c.args.around.counts in
     let l1 = then_reads c.args.around.limits s (try_word a (suc d) k) (try_left c.args.around.limits t c.args.at a d k c.requires.within c.requires.here)
@@ -599,7 +599,7 @@ try_stmt-returns-clause-reads h c =
 pub when-returns-then-not-is_word-clause-reads : goal.when-returns-then-not-is_word-clause-reads
 when-returns-then-not-is_word-clause-reads h c =
     let t = c.args.tokens.now in
-    let a = c.args.around.actor in
+    let a = c.args.around.routine in
     let d = c.args.around.depth in
     let k = counts_of c.args.around.counts in
     let n = c.args.before + 1 in
@@ -610,7 +610,7 @@ when-returns-then-not-is_word-clause-reads h c =
 pub when-returns-then-around-gt-DEPTH-clause-reads : goal.when-returns-then-around-gt-DEPTH-clause-reads
 when-returns-then-around-gt-DEPTH-clause-reads h c =
     let t = c.args.tokens.now in
-    let a = c.args.around.actor in
+    let a = c.args.around.routine in
     let d = c.args.around.depth in
     let k = counts_of c.args.around.counts in
     let n = c.args.before + 1 in
@@ -623,7 +623,7 @@ when-returns-then-around-gt-DEPTH-clause-reads h c =
 pub when-returns-then-before-around-clause-reads : goal.when-returns-then-before-around-clause-reads
 when-returns-then-before-around-clause-reads h c =
     let t = c.args.tokens.now in
-    let a = c.args.around.actor in
+    let a = c.args.around.routine in
     let d = c.args.around.depth in
     let k = counts_of c.args.around.counts in
     let n = c.args.before + 1 in
@@ -637,7 +637,7 @@ pub when-returns-in_err-at-clause-reads : goal.when-returns-in_err-at-clause-rea
 when-returns-in_err-at-clause-reads h c =
     let t = c.args.tokens.now in
     let s = t.spots.items in
-    let a = c.args.around.actor in
+    let a = c.args.around.routine in
     let d = c.args.around.depth in
     let k = counts_of c.args.around.counts in
     let n = c.args.before + 1 in
@@ -654,7 +654,7 @@ pub when-returns-in_err-read-clause-reads : goal.when-returns-in_err-read-clause
 when-returns-in_err-read-clause-reads h c =
     let t = c.args.tokens.now in
     let s = t.spots.items in
-    let a = c.args.around.actor in
+    let a = c.args.around.routine in
     let d = c.args.around.depth in
     let k = counts_of c.args.around.counts in
     let n = c.args.before + 1 in
@@ -672,7 +672,7 @@ pub when-returns-in_err-at-2-clause-reads : goal.when-returns-in_err-at-2-clause
 when-returns-in_err-at-2-clause-reads h c =
     let t = c.args.tokens.now in
     let s = t.spots.items in
-    let a = c.args.around.actor in
+    let a = c.args.around.routine in
     let d = c.args.around.depth in
     let k = counts_of c.args.around.counts in
     let n = c.args.before + 1 in
@@ -692,7 +692,7 @@ pub when-returns-in_err-inner-clause-reads : goal.when-returns-in_err-inner-clau
 when-returns-in_err-inner-clause-reads h c =
     let t = c.args.tokens.now in
     let s = t.spots.items in
-    let a = c.args.around.actor in
+    let a = c.args.around.routine in
     let d = c.args.around.depth in
     let k = counts_of c.args.around.counts in
     let n = c.args.before + 1 in
@@ -713,7 +713,7 @@ pub when-returns-clause-reads : goal.when-returns-clause-reads
 when-returns-clause-reads h c =
     let t = c.args.tokens.now in
     let s = t.spots.items in
-    let a = c.args.around.actor in
+    let a = c.args.around.routine in
     let d = c.args.around.depth in
     let k = counts_of c.args.around.counts in
     let n = c.args.before + 1 in
@@ -731,7 +731,7 @@ when-returns-clause-reads h c =
 pub whens-returns-in_err-first-clause-reads : goal.whens-returns-in_err-first-clause-reads
 whens-returns-in_err-first-clause-reads h c =
     let t = c.args.tokens.now in
-    let a = c.args.around.actor in
+    let a = c.args.around.routine in
     let d = c.args.around.depth in
     let k = counts_of c.args.around.counts in
     let e = c.in_err-first.field-0.0 in
@@ -741,7 +741,7 @@ whens-returns-in_err-first-clause-reads h c =
 pub whens-branches-init : goal.whens-branches-init
 whens-branches-init h c =
     let t = c.args.tokens.now in
-    let a = c.args.around.actor in
+    let a = c.args.around.routine in
     let d = c.args.around.depth in
     let k = counts_of c.args.around.counts in
     let q = one_pushed c.new-branches.result.items c.push.new.self.items c.when_branch.result c.in_ok-push.ensures.items c.new-branches.ensures.items in
@@ -753,7 +753,7 @@ pub whens-branches-preserved : goal.whens-branches-preserved
 whens-branches-preserved h c =
     let t = c.args.tokens.now in
     let s = t.spots.items in
-    let a = c.args.around.actor in
+    let a = c.args.around.routine in
     let d = c.args.around.depth in
     let k = counts_of c.args.around.counts in
     let i = c.branches.invariant in
@@ -769,7 +769,7 @@ pub whens-returns-in_err-read-clause-reads : goal.whens-returns-in_err-read-clau
 whens-returns-in_err-read-clause-reads h c =
     let t = c.args.tokens.now in
     let s = t.spots.items in
-    let a = c.args.around.actor in
+    let a = c.args.around.routine in
     let d = c.args.around.depth in
     let e = c.in_err-read.field-0.0 in
     let p = err_from_is_err_and c.from_residual-in_err-read.result c.from_residual-in_err-read.ensures.1 in
@@ -789,7 +789,7 @@ pub whens-returns-clause-reads : goal.whens-returns-clause-reads
 whens-returns-clause-reads h c =
     let t = c.args.tokens.now in
     let s = t.spots.items in
-    let a = c.args.around.actor in
+    let a = c.args.around.routine in
     let d = c.args.around.depth in
     let k = counts_of c.args.around.counts in
     whens_done c.args.around.limits s a d k c.args.at c.branches.at c.in_ok-to.to (c.branches.before + 1) _ (counts_of c.branches.counts) c.branches.branches.items

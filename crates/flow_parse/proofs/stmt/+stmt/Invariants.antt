@@ -47,7 +47,7 @@ decreases-whens l = 4 * (length l.tokens.now.spots.items - l.at) + 1
 
 abbrev pub invariant-stmts-items : goal.invariant-stmts-items
 invariant-stmts-items l = (l.fn.at ≤ l.at) × (l.at ≤ length l.tokens.spots.items)
-    × Leaves l.fn.around.limits (Closing l.fn.around.actor l.fn.around.depth (counts_of l.fn.around.counts)) Any (Closing l.fn.around.actor l.fn.around.depth (counts_of l.counts)) Any
+    × Leaves l.fn.around.limits (Closing l.fn.around.routine l.fn.around.depth (counts_of l.fn.around.counts)) Any (Closing l.fn.around.routine l.fn.around.depth (counts_of l.counts)) Any
     (closing_before l.body.items) l.tokens.spots.items l.fn.at l.at
 
 abbrev pub decreases-stmts-items : goal.decreases-stmts-items
@@ -55,7 +55,7 @@ decreases-stmts-items l = length l.tokens.spots.items - l.at
 
 abbrev pub invariant-whens-branches : goal.invariant-whens-branches
 invariant-whens-branches l = (l.fn.at < l.at) × (l.at ≤ length l.tokens.spots.items) × (l.before ≤ l.fn.around.limits.branches)
-    × Leaves l.fn.around.limits (AllWhens l.fn.around.actor l.fn.around.depth (counts_of l.fn.around.counts)) Any (WhensPart l.fn.around.actor l.fn.around.depth (l.before + 1) (counts_of l.counts))
+    × Leaves l.fn.around.limits (AllWhens l.fn.around.routine l.fn.around.depth (counts_of l.fn.around.counts)) Any (WhensPart l.fn.around.routine l.fn.around.depth (l.before + 1) (counts_of l.counts))
     Any (whens_before l.branches.items) l.tokens.spots.items l.fn.at l.at
 
 abbrev pub decreases-whens-branches : goal.decreases-whens-branches

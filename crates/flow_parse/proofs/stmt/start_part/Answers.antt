@@ -23,14 +23,14 @@ pub returns-then-is_sign-clause-reads : goal.returns-then-is_sign-clause-reads
 returns-then-is_sign-clause-reads c =
     let t = c.args.tokens.now in
     let e = c.if-is_sign.ensures.sign.0 refl in
-    done c.args.around.limits t.spots.items (no_start c.args.around.limits t c.args.at c.args.around.actor c.args.around.depth (counts_of c.args.around.counts) c.requires.within e)
+    done c.args.around.limits t.spots.items (no_start c.args.around.limits t c.args.at c.args.around.routine c.args.around.depth (counts_of c.args.around.counts) c.requires.within e)
     (tok_reads c.args.around.limits t c.args.at (token.Sign sign.Semicolon) e)
 
 pub returns-then-not-begins_init-clause-reads : goal.returns-then-not-begins_init-clause-reads
 returns-then-not-begins_init-clause-reads c =
     let t = c.args.tokens.now in
     let k = counts_of c.args.around.counts in
-    let a = c.args.around.actor in
+    let a = c.args.around.routine in
     let d = c.args.around.depth in
     let l = start_left c.args.around.limits t c.args.at a d k c.requires.within (λ e. not_true (c.if-is_sign.ensures.sign.1 e)) in
     rw c.refused.ensures (first_fails c.args.around.limits t init_semicolon l (Refused (rule.S 5) (place_at t c.args.at))
@@ -40,7 +40,7 @@ pub returns-in_err-counts-clause-reads : goal.returns-in_err-counts-clause-reads
 returns-in_err-counts-clause-reads c =
     let t = c.args.tokens.now in
     let k = counts_of c.args.around.counts in
-    let a = c.args.around.actor in
+    let a = c.args.around.routine in
     let d = c.args.around.depth in
     let l = start_left c.args.around.limits t c.args.at a d k c.requires.within (λ e. not_true (c.if-is_sign.ensures.sign.1 e)) in
     let b = init_beyond c.args.around.limits t c.args.at a d k c.if-not-begins_init.ensures.within (c.if-not-begins_init.ensures.begins.0 refl) c.in_err-counts.field-0.0 c.in_err-counts.ensures.beyond
@@ -52,7 +52,7 @@ pub returns-in_err-read-clause-reads : goal.returns-in_err-read-clause-reads
 returns-in_err-read-clause-reads c =
     let t = c.args.tokens.now in
     let k = counts_of c.args.around.counts in
-    let a = c.args.around.actor in
+    let a = c.args.around.routine in
     let d = c.args.around.depth in
     let l = start_left c.args.around.limits t c.args.at a d k c.requires.within (λ e. not_true (c.if-is_sign.ensures.sign.1 e)) in
     let e = c.in_err-read.field-0.0 in
@@ -66,7 +66,7 @@ pub returns-in_err-to-clause-reads : goal.returns-in_err-to-clause-reads
 returns-in_err-to-clause-reads c =
     let t = c.args.tokens.now in
     let k = counts_of c.args.around.counts in
-    let a = c.args.around.actor in
+    let a = c.args.around.routine in
     let d = c.args.around.depth in
     let l = start_left c.args.around.limits t c.args.at a d k c.requires.within (λ e. not_true (c.if-is_sign.ensures.sign.1 e)) in
     let b = begun_reads c.args.around.limits (Init a d (one_statement k)) (Before (token.Sign sign.Semicolon)) t c.args.at k d c.requires.within c.in_ok-counts.ensures.within.1
@@ -79,7 +79,7 @@ pub returns-clause-reads : goal.returns-clause-reads
 returns-clause-reads c =
     let t = c.args.tokens.now in
     let k = counts_of c.args.around.counts in
-    let a = c.args.around.actor in
+    let a = c.args.around.routine in
     let d = c.args.around.depth in
     let l = start_left c.args.around.limits t c.args.at a d k c.requires.within (λ e. not_true (c.if-is_sign.ensures.sign.1 e)) in
     let b = begun_reads c.args.around.limits (Init a d (one_statement k)) (Before (token.Sign sign.Semicolon)) t c.args.at k d c.requires.within c.in_ok-counts.ensures.within.1

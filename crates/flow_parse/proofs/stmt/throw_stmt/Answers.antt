@@ -17,7 +17,7 @@ returns-clause-reads c =
     let d = c.args.around.depth in
     let k = tok_reads c.args.around.limits t c.args.at (token.Word word.Throw) c.requires.here in
     let l = then_reads c.args.around.limits t.spots.items (throw_word (token.Word word.Throw) (suc d))
-    (throw_left c.args.around.limits t c.args.at c.args.around.actor d (counts_of c.args.around.counts) c.requires.within c.requires.here) k in
+    (throw_left c.args.around.limits t c.args.at c.args.around.routine d (counts_of c.args.around.counts) c.requires.within c.requires.here) k in
     rw (c.ended.ensures.is, c.throw_stmt.ensures.is End, c.place-here.ensures)
     (done c.args.around.limits t.spots.items l (deeper c.args.around.limits MaybeExpr d (c.in_ok-error.ensures.reads c.args.around.limits)))
 
@@ -27,7 +27,7 @@ returns-in_err-error-clause-reads c =
     let d = c.args.around.depth in
     let k = tok_reads c.args.around.limits t c.args.at (token.Word word.Throw) c.requires.here in
     let l = then_reads c.args.around.limits t.spots.items (throw_word (token.Word word.Throw) (suc d))
-    (throw_left c.args.around.limits t c.args.at c.args.around.actor d (counts_of c.args.around.counts) c.requires.within c.requires.here) k in
+    (throw_left c.args.around.limits t c.args.at c.args.around.routine d (counts_of c.args.around.counts) c.requires.within c.requires.here) k in
     let p = err_from_is_err_and c.from_residual.result c.from_residual.ensures.1 in
     rw (p.1, p.2) (fails c.args.around.limits t l c.in_err-error.field-0.0
     (deeper_fails c.args.around.limits MaybeExpr Any t (c.args.at + 1) d c.in_err-error.field-0.0 (c.in_err-error.ensures.reads c.args.around.limits)))

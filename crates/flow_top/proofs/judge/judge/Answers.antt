@@ -35,3 +35,7 @@ pub returns-in-Debug-clause-runs : goal.returns-in-Debug-clause-runs
 returns-in-Debug-clause-runs c =
     subst (λ a. RunsTo c.args.text.now (request_of a) c.program_with_waits.result) (sym c.in-Debug.is)
     (program_runs c.args.text.now _ c.program_with_waits.result tt (λ p. tt) c.program_with_waits.ensures.judged)
+
+pub returns-in-Upgrade-clause-runs : goal.returns-in-Upgrade-clause-runs
+returns-in-Upgrade-clause-runs c =
+    subst (λ a. RunsTo c.args.text.now (request_of a) (Err c.upgraded.result)) (sym c.in-Upgrade.is) (ended c.args.text.now _ c.upgraded.result (c.upgraded.ensures _))
