@@ -80,4 +80,22 @@ try "compile second_operand_never_starts" compile "$first.flow"
 try "exec of these classes" exec "$work/classes" "$first.world"
 try "run with monitors" run "$top/examples/stop_cancels_in_order.flow" "$top/examples/stop_cancels_in_order.world" --monitor live=3,errors=1
 try "bench" bench 3 42
+try "upgrade of these classes" upgrade "$work/classes"
+
+# Vectors and void actors: a vector that grows and is shared, one that is let go with the actors that it holds, records of vectors that are
+# sent, and void actors that wait.
+program() {
+    printf '%s\nACTOR Future<Void> main(int p) {\n%s\nreturn Void();\n}\n' "$2" "$3" >"$work/$1.flow"
+}
+: >"$work/empty.world"
+program grown '' 'vector<string> v; int i = 0; while (i < 40) { v.push_back(to_string(i)); vector<string> w = v; w.push_back("x"); i++; } trace(v[39]);'
+program cleared 'ACTOR Future<Void> leaf(int n) { wait(Never()); return Void(); }' \
+    'state vector<Future<Void>> f; state int k = 0; while (k < 9) { Future<Void> l = leaf(k); f.push_back(l); k++; } f.clear(); trace(f.size());'
+program sent 'struct R { vector<Promise<int>> q; };' \
+    'Promise<int> q; vector<Promise<int>> e; R r = R(e); r.q.push_back(q); r.q.push_back(q); PromiseStream<R> s; s.send(r); s.send(r); R g = waitNext(s.getFuture()); trace(g.q.size());'
+program late 'ACTOR void late(int n, vector<int> v) { wait(delay(n)); v.push_back(n); trace(v[v.size() - 1]); }' \
+    'vector<int> v; int i = 0; while (i < 12) { v.push_back(i); late(i, v); i++; }'
+for name in grown cleared sent late; do
+    try "run $name" run "$work/$name.flow" "$work/empty.world"
+done
 exit $wrong
