@@ -41,17 +41,22 @@ pub data TextsPass (c : Call) : Request → Type 0 where
   formats : (name text : List ℕ) (p : Program) → HasFile c name text → IsProgram text p → TextsPass c (format name)
   checks : (name text : List ℕ) (p : Program) → HasFile c name text → IsPassing text p → TextsPass c (check name)
   compiles : (name text : List ℕ) (p : Program) → HasFile c name text → IsPassing text p → TextsPass c (compile name)
-  runs : (r : RunRequest) (text : List ℕ) (p : Program) (w : World) → HasFile c r.what text → IsPassing text p → HasWorld c r.world w
+  runs : (r : RunRequest) (text : List ℕ) (p : Program) (w : World) → HasFile c r.what text → IsPassing text p
+      → HasWorld c r.world w
       → TextsPass c (run r)
   execs : (r : RunRequest) (text : List ℕ) (classes : RawClasses) (w : World) → HasFile c r.what text → ClassAnswer text (Ok classes)
       → HasWorld c r.world w → TextsPass c (exec r)
-  benches : (clients seed : ℕ) (p : Program) (w : World) → IsPassing (program_text clients) p → length (generated_world seed) ≤ WORLD_BYTES
+  benches : (clients seed : ℕ) (p : Program) (w : World) → IsPassing (program_text clients) p
+      → length (generated_world seed) ≤ WORLD_BYTES
       → IsFileOf (generated_world seed) w → TextsPass c (bench clients seed)
-  shrinks : (program world : List ℕ) (want : Want) (text : List ℕ) (p : Program) (w : World) → HasFile c program text → IsPassing text p
+  shrinks : (program world : List ℕ) (want : Want) (text : List ℕ) (p : Program) (w : World) → HasFile c program text
+      → IsPassing text p
       → HasWorld c world w → length w.script ≤ SCRIPT_LINES → TextsPass c (shrink program world want)
-  debugs : (program world : List ℕ) (most : ℕ) (text : List ℕ) (p : Program) (w : World) → HasFile c program text → IsPassing text p
+  debugs : (program world : List ℕ) (most : ℕ) (text : List ℕ) (p : Program) (w : World) → HasFile c program text
+      → IsPassing text p
       → HasWorld c world w → TextsPass c (debug program world most)
-  upgrades : (name text : List ℕ) (classes : RawClasses) → HasFile c name text → ClassAnswer text (Ok classes) → TextsPass c (upgrade name)
+  upgrades : (name text : List ℕ) (classes : RawClasses) → HasFile c name text → ClassAnswer text (Ok classes)
+      → TextsPass c (upgrade name)
 
 -- the lines that are told
 abbrev pub TellsAll : Call → Request → (shown : List Line → Type 0) → Type 0
@@ -73,7 +78,8 @@ ProgramStops p ears w = (lines : List Line) × SourceShown false p w lines × Is
 -- Where a program is stopped in this world, the world file was written and handed on of a world as this one but for its script, which has
 -- some of its lines, so that the program is stopped in it, and isn't without any one of these, with status 0; else that it isn't, with 13.
 pub data TellsShrunk (c : Call) (p : ProgramTree) (ears : Ears) (w : World) : Type 0 where
-  least : (v : World) → ProgramStops p ears w → IsLeast (ProgramStops p ears) w v → GoesOut c.sink c.sink' (world_text v) → c.status ≡ 0
+  least : (v : World) → ProgramStops p ears w → IsLeast (ProgramStops p ears) w v → GoesOut c.sink c.sink' (world_text v)
+      → c.status ≡ 0
       → TellsShrunk c p ears w
   not_stopped : (ProgramStops p ears w → ⊥) → GoesOut c.sink c.sink' (codes "not stopped" ++ 10 ∷ []) → c.status ≡ 13
       → TellsShrunk c p ears w

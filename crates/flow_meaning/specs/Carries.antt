@@ -38,7 +38,8 @@ module _ (ns : Names) (c : ClassTree) where
   abbrev pub LoopAt : Scope → List Item → List Target → Option ExprTree → (block : ℕ) → (Pos → Type 0) → Type 0
   LoopAt s r ts None b inner = inner (entry b)
   LoopAt s r ts (Some e) b inner =
-      CaughtAt ns c s r ts (entry b) × (y : ℕ) × (n : ℕ) × (at ns c (entry b) ≡ Last (TestLast (over c.slots s e) y n)) × inner (entry y)
+      CaughtAt ns c s r ts (entry b) × (y : ℕ) × (n : ℕ) × (at ns c (entry b) ≡ Last (TestLast (over c.slots s e) y n))
+      × inner (entry y)
       × GoesOn ns c s r ts (entry n)
 
   -- an error by an expression, or that of the catch around by its variable
@@ -49,7 +50,8 @@ module _ (ns : Names) (c : ClassTree) where
 
   -- a group's callbacks at a position
   abbrev pub GroupAt : Spot → List CallbackTree → Pos → Type 0
-  GroupAt spot cs p = (at ns c p ≡ Last (ChooseLast spot.group)) × (spot_of c spot.group ≡ spot) × (group_at c.groups spot.group ≡ Some cs)
+  GroupAt spot cs p = (at ns c p ≡ Last (ChooseLast spot.group)) × (spot_of c spot.group ≡ spot)
+      × (group_at c.groups spot.group ≡ Some cs)
 
   -- a callback has the operand of its branch, and the place of the variable that this declares
   abbrev pub TakesInto : Scope → Option IntoTree → Option Slotted → Scope → Type 0
@@ -81,7 +83,8 @@ module _ (ns : Names) (c : ClassTree) where
     BodyAt s r ts x (WhileStmt place e b k) p =
         (h : ℕ) × (q : Pos) × PassAt ns c p h
         × LoopAt s (Do (site_past b x) k ∷ r) (At q ∷ ts) (Some e) h
-        (BodyAt (Mark ∷ s) (Leave ∷ Made (record { site = x; condition = Some e; step = End; inner = b }) ∷ Do (site_past b x) k ∷ r)
+        (BodyAt (Mark ∷ s)
+        (Leave ∷ Made (record { site = x; condition = Some e; step = End; inner = b }) ∷ Do (site_past b x) k ∷ r)
         (Again h ∷ At q ∷ ts) x b)
         × BodyAt s r ts (site_past b x) k q
     BodyAt s r ts x (LoopStmt place b k) p =
@@ -125,7 +128,8 @@ module _ (ns : Names) (c : ClassTree) where
         × BodyAt s2 r ts x k (after p)
     BodyAt s r ts x (AssignStmt place xs e k) p =
         CaughtAt ns c s r ts p × AssignAt ns c s (path_over c.slots s xs) e p × BodyAt s r ts x k (after p)
-    BodyAt s r ts x (ModifyStmt place xs d k) p = CaughtAt ns c s r ts p × ChangeAt ns c s xs (change xs d) p × BodyAt s r ts x k (after p)
+    BodyAt s r ts x (ModifyStmt place xs d k) p = CaughtAt ns c s r ts p × ChangeAt ns c s xs (change xs d) p
+        × BodyAt s r ts x k (after p)
     BodyAt s r ts x (CallStmt place xs es k) p =
         CaughtAt ns c s r ts p × (at ns c p ≡ frame.Body (ActInstr (act_over c.slots s xs) (over_all c.slots s es)))
         × BodyAt s r ts x k (after p)
@@ -139,7 +143,8 @@ module _ (ns : Names) (c : ClassTree) where
     BranchesAt s r ts x NoBranches (d ∷ ds) = ⊥
     BranchesAt s r ts x (MoreBranches place w b bs) [] = ⊥
     BranchesAt s r ts x (MoreBranches place w b bs) (d ∷ ds) =
-        (s2 : Scope) × BranchAt s (Mark ∷ s) w d s2 × BodyAt s2 (Leave ∷ r) ts x b (entry d.block) × BranchesAt s r ts (site_past b x) bs ds
+        (s2 : Scope) × BranchAt s (Mark ∷ s) w d s2 × BodyAt s2 (Leave ∷ r) ts x b (entry d.block)
+        × BranchesAt s r ts (site_past b x) bs ds
 
 -- a class carries an actor, from the begin of its text and the begin of its first block
 abbrev pub Carries : Names → RoutineTree → ClassTree → Type 0

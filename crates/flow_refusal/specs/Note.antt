@@ -125,13 +125,18 @@ world_note words name text world.OutOfMemory = []
 -- that are shown first are those that the line tells, more may be said behind, and nothing is noted on a line that tells of no fault.
 pub data Notes : (answer : List ℕ) → (name text : List ℕ) → (world world_text : List ℕ) → (note : List ℕ) → Type 0 where
   on_program : {answer name text world world_text note : List ℕ} (words more : List ℕ) (fault : SourceFault)
-      → answer ≡ refusal_text fault → note ≡ program_note words name text fault ++ more → Notes answer name text world world_text note
+      → answer ≡ refusal_text fault → note ≡ program_note words name text fault ++ more
+      → Notes answer name text world world_text note
   on_class : {answer name text world world_text note : List ℕ} (words more : List ℕ) (fault : ClassFault)
-      → answer ≡ class_refusal fault → note ≡ class_note words name text fault ++ more → Notes answer name text world world_text note
+      → answer ≡ class_refusal fault → note ≡ class_note words name text fault ++ more
+      → Notes answer name text world world_text note
   on_world : {answer name text world world_text note : List ℕ} (words more : List ℕ) (fault : WorldFault)
-      → answer ≡ world_refusal fault → note ≡ world_note words world world_text fault ++ more → Notes answer name text world world_text note
-  on_words : {answer name text world world_text note : List ℕ} → answer ≡ codes "usage\n" → Notes answer name text world world_text note
-  on_file : {answer name text world world_text note : List ℕ} → answer ≡ codes "read fault\n" → Notes answer name text world world_text note
+      → answer ≡ world_refusal fault → note ≡ world_note words world world_text fault ++ more
+      → Notes answer name text world world_text note
+  on_words : {answer name text world world_text note : List ℕ} → answer ≡ codes "usage\n"
+      → Notes answer name text world world_text note
+  on_file : {answer name text world world_text note : List ℕ} → answer ≡ codes "read fault\n"
+      → Notes answer name text world world_text note
   on_script : {answer name text world world_text note : List ℕ} → answer ≡ script_refusal
       → (words : List ℕ) × (note ≡ overall world words) → Notes answer name text world world_text note
   none : {answer name text world world_text note : List ℕ} → note ≡ [] → Notes answer name text world world_text note

@@ -35,7 +35,8 @@ pub data IsRefusedBy (text : List ℕ) : told.Answered → Type 0 where
   by_rule : (rule : Rule) (at : Place) → IsRefused text rule at → IsRefusedBy text (Refused (source.Refused rule at))
   lost_local : (p : Program) (l : Lost) → IsLost text p l → IsRefusedBy text (Refused (source.AcrossWait l.at l.declared l.wait))
   -- an actor of the program weighs too much
-  heavy : (p : Program) (at : Place) → IsSound text p → first_heavy (program_of p).decls ≡ Some at → IsRefusedBy text (heavy_outcome at)
+  heavy : (p : Program) (at : Place) → IsSound text p → first_heavy (program_of p).decls ≡ Some at
+      → IsRefusedBy text (heavy_outcome at)
 
 -- the request has a program judged by all rules
 abbrev pub HasProgram : Request → Type 0
@@ -57,7 +58,8 @@ pub data DueBy (text : List ℕ) : Request → Outcome → Type 0 where
   formatted : (p : List ℕ) (program : Program) → IsProgram text program → DueBy text (format p) (Answered (Formatted program))
   refused : (q : Request) (a : told.Answered) → HasProgram q → IsRefusedBy text a → DueBy text q (Answered a)
   passed : (p : List ℕ) (program : Program) → IsPassing text program → DueBy text (check p) (Answered Passed)
-  compiled : (p : List ℕ) (program : Program) (classes : RawClasses) → IsPassing text program → Has (program_of program) (raw_of classes)
+  compiled : (p : List ℕ) (program : Program) (classes : RawClasses) → IsPassing text program
+      → Has (program_of program) (raw_of classes)
       → DueBy text (compile p) (Answered (Printed classes))
   -- the class text is refused, and not for want of memory
   no_classes : (q : Request) (fault : ClassFault) → HasClassText q → ClassAnswer text (Err fault) → fault ≢ class.OutOfMemory
@@ -75,7 +77,8 @@ pub data DueIn (text world_text : List ℕ) (q : Request) : Outcome → Type 0 w
   no_world : (meant : Meant) (classes : RawClasses) (fault : WorldFault) → IsRunFor text q meant classes
       → reading.ReadsWorld world_text (Err fault) → fault ≢ world.OutOfMemory → DueIn text world_text q (Answered (NoWorld fault))
   -- classes are run in the world
-  runs : (r : ProgramRun) → IsRunFor text q r.meant r.classes → reading.ReadsWorld world_text (Ok r.world) → r.frames ≡ tells_frames q
+  runs : (r : ProgramRun) → IsRunFor text q r.meant r.classes → reading.ReadsWorld world_text (Ok r.world)
+      → r.frames ≡ tells_frames q
       → DueIn text world_text q (run_for q r)
 
 -- What is due by the request and by the texts of these files, in the order in which they were asked for.
@@ -83,5 +86,6 @@ pub data Due : Option Request → Outcome → List FileText → Type 0 where
   usage : Due None (Answered Usage) []
   by_text : (q : Request) (text : List ℕ) (o : Outcome) → IsOf (first_source q) text → DueBy text q o
       → Due (Some q) o (read_for (first_source q) text)
-  in_world : (q : Request) (text world_text : List ℕ) (s : Source) (o : Outcome) → IsOf (first_source q) text → world_source q ≡ Some s
+  in_world : (q : Request) (text world_text : List ℕ) (s : Source) (o : Outcome) → IsOf (first_source q) text
+      → world_source q ≡ Some s
       → IsOf s world_text → DueIn text world_text q o → Due (Some q) o (read_for (first_source q) text ++ read_for s world_text)

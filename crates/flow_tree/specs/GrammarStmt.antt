@@ -168,7 +168,8 @@ mutual
         → all ≡ word_at word.If at ∷ in_round p test q body
         → PlainRule home d c c' all at rest (IfStmt at e body1 rest) true
     -- "if" "(" expr ")" stmt "else" stmt
-    if_else_stmt : {home : RoutineKind} {d : ℕ} {c c1 c' : Counts} {rest body1 body2 : Body} {e : ExprTree} {ends_if : Bool} {all : List Marked}
+    if_else_stmt : {home : RoutineKind} {d : ℕ} {c c1 c' : Counts} {rest body1 body2 : Body} {e : ExprTree} {ends_if : Bool}
+        {all : List Marked}
         (at p q r : Place) (test body other : List Marked)
         → ExprRule 0 (suc d) test e → BodyRule home (suc d) c c1 body body1 false → BodyRule home (suc d) c1 c' other body2 ends_if
         → all ≡ word_at word.If at ∷ in_round p test q (body ++ (word_at word.Else r ∷ other))
@@ -184,8 +185,8 @@ mutual
         {all : List Marked} (at p q r s : Place) (init test step body : List Marked)
         → InitPart home (suc d) c c1 init start → MaybeExprRule (suc d) test e → StepPart (suc d) c1 c2 step next
         → BodyRule home (suc d) c2 c' body inner ends_if
-        → all ≡ word_at word.For at ∷ sign_at sign.OpenRound p ∷ (init ++ (sign_at sign.Semicolon q ∷ (test ++ (sign_at sign.Semicolon r
-        ∷ (step ++ (sign_at sign.CloseRound s ∷ body))))))
+        → all ≡ word_at word.For at ∷ sign_at sign.OpenRound p ∷ (init ++ (sign_at sign.Semicolon q
+        ∷ (test ++ (sign_at sign.Semicolon r ∷ (step ++ (sign_at sign.CloseRound s ∷ body))))))
         → PlainRule home d c c' all at rest (ForStmt at start e next inner rest) ends_if
     -- "loop" stmt
     loop_stmt : {home : RoutineKind} {d : ℕ} {c c' : Counts} {rest inner : Body} {ends_if : Bool} {all : List Marked}
@@ -229,7 +230,8 @@ mutual
         → all ≡ xs ++ sign_at sign.Semicolon p ∷ []
         → PlainRule home d c c' all at rest body false
     -- waiting ";"
-    wait_stmt : {home : RoutineKind} {d : ℕ} {c c' : Counts} {rest : Body} {w : WaitTree} {all : List Marked} (at p : Place) (xs : List Marked)
+    wait_stmt : {home : RoutineKind} {d : ℕ} {c c' : Counts} {rest : Body} {w : WaitTree} {all : List Marked} (at p : Place)
+        (xs : List Marked)
         → WaitingRule home d c c' xs w
         → all ≡ xs ++ sign_at sign.Semicolon p ∷ []
         → StartsAt all at → PlainRule home d c c' all at rest (WaitStmt at w rest) false
@@ -264,7 +266,8 @@ mutual
     block_body : {home : RoutineKind} {d : ℕ} {c c' : Counts} {body : Body} {all : List Marked}
         → BlockRule home d c c' all body
         → BodyRule home d c c' all body false
-    one_body : {home : RoutineKind} {d : ℕ} {c c' : Counts} {body : Body} {ends_if : Bool} {all : List Marked} (at : Place) (xs : List Marked)
+    one_body : {home : RoutineKind} {d : ℕ} {c c' : Counts} {body : Body} {ends_if : Bool} {all : List Marked} (at : Place)
+        (xs : List Marked)
         → PlainRule home d (one_statement c) c' xs at End body ends_if
         → all ≡ begin_statement c d xs
         → BodyRule home d c c' all body ends_if
@@ -288,7 +291,8 @@ mutual
 
   -- "when" "(" waiting ")" stmt, put before the branches that follow
   pub data WhenRule : RoutineKind → ℕ → ℕ → Counts → Counts → List Marked → Branches → Branches → Type 0 where
-    branch : {home : RoutineKind} {d n : ℕ} {c c1 c' : Counts} {bs : Branches} {w : WaitTree} {inner : Body} {ends_if : Bool} {all : List Marked}
+    branch : {home : RoutineKind} {d n : ℕ} {c c1 c' : Counts} {bs : Branches} {w : WaitTree} {inner : Body} {ends_if : Bool}
+        {all : List Marked}
         (at p q : Place) (xs body : List Marked)
         → WaitingRule home d c c1 xs w → BodyRule home (suc d) c1 c' body inner ends_if
         → all ≡ opens (Branch n ∷ Node d ∷ []) (token.Word word.When) at ∷ in_round p xs q body
