@@ -4,6 +4,7 @@
 pub mod build;
 pub mod decl;
 pub mod laws;
+pub mod leaving;
 pub mod parse;
 pub mod simple;
 pub mod stmt;

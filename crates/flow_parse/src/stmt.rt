@@ -2,11 +2,9 @@
 
 ghost use Rattle.std.specs.Prelude.{◌≡◌, ◌↔◌, ℕ, ◌+◌, ◌<◌, ◌≤◌, length, IfOk, IfErr, IsTrue, Some, None, true};
 ghost use Rattle.std.specs.Bool.{OnTrue};
-ghost use Rattle.std.specs.Option.{option_map};
 ghost use Rattle.flow_tree.specs.declared.token.Word.TheVariants as word;
 ghost use Rattle.flow_tree.specs.declared.token.Sign.TheVariants as sign;
 ghost use Rattle.flow_tree.specs.declared.token.Token.TheVariants as token;
-ghost use Rattle.flow_tree.specs.View.{expr_of};
 ghost use Rattle.flow_tree.specs.StmtView.{stmt_of};
 ghost use Rattle.flow_tree.specs.Body.{End};
 ghost use Rattle.flow_tree.specs.GrammarStmt.{one_statement};
@@ -15,20 +13,19 @@ ghost use Rattle.flow_parse.specs.Reading.{token_at, Any, Answer, AnswerAlways};
 ghost use Rattle.flow_parse.specs.Follow.{ExprEnds, NotBefore};
 ghost use Rattle.flow_parse.specs.Openers.{AsFirst, IntoToken, StmtWord, StmtToken};
 ghost use Rattle.flow_parse.specs.Beyond.{Beyond};
-ghost use Rattle.flow_parse.specs.Parts.{NoElse, Assignment, Catch, AllWhens, MaybeExpr, Returned, StartPart, NextPart, Plain, One, BodyPart, Closing, Block, WhenPart, WhensPart};
+ghost use Rattle.flow_parse.specs.Parts.{NoElse, Assignment, Catch, AllWhens, StartPart, NextPart, Plain, One, BodyPart, Closing, Block, WhenPart, WhensPart};
 ghost use Rattle.flow_parse.specs.Views.{counts_of, Within, stmt_out, body_out, block_out, when_out, whens_out, part_out, Stands};
 
 use crate::build;
+use crate::leaving::{break_stmt, continue_stmt, maybe_expr, return_stmt, throw_stmt};
 use crate::simple::{
     Around, Counts, ReadStmt, change, ended, init, more_names, simple, test, waiting,
 };
 use crate::token::{
-    begins_type, expr, is_name, is_sign, is_type_word, is_word, name, refused, sign, word,
+    begins_type, is_name, is_sign, is_type_word, is_word, name, refused, sign, word,
 };
 use flow_base::place::Place;
 use flow_exprs::token::place;
-use flow_tree::decl::RoutineKind;
-use flow_tree::expr::Expr;
 use flow_tree::fault::{Rule, SourceFault};
 use flow_tree::limits::{DEPTH, Limits};
 use flow_tree::stmt::{Stmt, Waiting, When};
@@ -304,32 +301,6 @@ fn plain(alloc: Global, tokens: &Tokens, at: usize, around: Around) -> Result<Re
     Ok(ended(read.stmt, read.to, read.counts))
 }
 
-fn break_stmt(tokens: &Tokens, at: usize, around: Around) -> Result<ReadStmt, SourceFault>
-    requires within { at ≤ length tokens.now.spots.items }
-    requires here { token_at tokens.now.spots.items at ≡ Some (token.Word word.Break) }
-    ensures reads { Answer around.limits (Within Plain around) NoElse stmt_out (λ r. r.to)
-        tokens.now at result }
-    ensures stands { IfOk result (λ r. Stands r.stmt) }
-    ensures moves { IfOk result (λ r. (at < r.to) × (r.to ≤ length tokens.now.spots.items)) }
-{
-    let here = place(tokens, at);
-    let to = sign(tokens, at + 1, Sign::Semicolon)?;
-    Ok(ended(build::break_stmt(here), to, around.counts))
-}
-
-fn continue_stmt(tokens: &Tokens, at: usize, around: Around) -> Result<ReadStmt, SourceFault>
-    requires within { at ≤ length tokens.now.spots.items }
-    requires here { token_at tokens.now.spots.items at ≡ Some (token.Word word.Continue) }
-    ensures reads { Answer around.limits (Within Plain around) NoElse stmt_out (λ r. r.to)
-        tokens.now at result }
-    ensures stands { IfOk result (λ r. Stands r.stmt) }
-    ensures moves { IfOk result (λ r. (at < r.to) × (r.to ≤ length tokens.now.spots.items)) }
-{
-    let here = place(tokens, at);
-    let to = sign(tokens, at + 1, Sign::Semicolon)?;
-    Ok(ended(build::continue_stmt(here), to, around.counts))
-}
-
 // An `else` belongs to the nearest `if` that has none.
 #[cycle(stmt)]
 fn if_stmt(
@@ -532,47 +503,6 @@ fn assignment(
     change(alloc, tokens, here, path, at, depth)
 }
 
-// An expression, or nothing, and the semicolon behind it.
-fn maybe_expr(
-    alloc: Global,
-    tokens: &Tokens,
-    at: usize,
-    depth: u32,
-) -> Result<(Option<Expr>, usize), SourceFault>
-    requires within { at ≤ length tokens.now.spots.items }
-    ensures reads { AnswerAlways (MaybeExpr depth) Any (λ r. option_map expr_of r.0) (λ r. r.1)
-        tokens.now at result }
-    ensures moves { IfOk result (λ r. (at < r.1) × (r.1 ≤ length tokens.now.spots.items)) }
-{
-    if is_sign(tokens, at, Sign::Semicolon) {
-        return Ok((None, at + 1));
-    }
-    let (expr, at) = expr(alloc, tokens, at, depth)?;
-    let to = sign(tokens, at, Sign::Semicolon)?;
-    Ok((Some(expr), to))
-}
-
-// What a `return` gives, which may be nothing where `return;` stands, and the semicolon behind it.
-fn returned(
-    alloc: Global,
-    tokens: &Tokens,
-    at: usize,
-    home: RoutineKind,
-    depth: u32,
-) -> Result<(Option<Expr>, usize), SourceFault>
-    requires within { at ≤ length tokens.now.spots.items }
-    ensures reads { AnswerAlways (Returned home depth) Any (λ r. option_map expr_of r.0) (λ r. r.1)
-        tokens.now at result }
-    ensures moves { IfOk result (λ r. (at < r.1) × (r.1 ≤ length tokens.now.spots.items)) }
-{
-    if home.has_bare_return() {
-        return maybe_expr(alloc, tokens, at, depth);
-    }
-    let (value, at) = expr(alloc, tokens, at, depth)?;
-    let to = sign(tokens, at, Sign::Semicolon)?;
-    Ok((Some(value), to))
-}
-
 #[cycle(stmt)]
 fn for_stmt(
     alloc: Global,
@@ -615,44 +545,6 @@ fn for_stmt(
         counts: read.counts,
         ends_if: read.ends_if,
     })
-}
-
-fn return_stmt(
-    alloc: Global,
-    tokens: &Tokens,
-    at: usize,
-    around: Around,
-) -> Result<ReadStmt, SourceFault>
-    requires within { at ≤ length tokens.now.spots.items }
-    requires shallow { around.depth ≤ DEPTH }
-    requires here { token_at tokens.now.spots.items at ≡ Some (token.Word word.Return) }
-    ensures reads { Answer around.limits (Within Plain around) NoElse stmt_out (λ r. r.to)
-        tokens.now at result }
-    ensures stands { IfOk result (λ r. Stands r.stmt) }
-    ensures moves { IfOk result (λ r. (at < r.to) × (r.to ≤ length tokens.now.spots.items)) }
-{
-    let here = place(tokens, at);
-    let (value, to) = returned(alloc, tokens, at + 1, around.routine, around.depth + 1)?;
-    Ok(ended(build::return_stmt(here, value), to, around.counts))
-}
-
-fn throw_stmt(
-    alloc: Global,
-    tokens: &Tokens,
-    at: usize,
-    around: Around,
-) -> Result<ReadStmt, SourceFault>
-    requires within { at ≤ length tokens.now.spots.items }
-    requires shallow { around.depth ≤ DEPTH }
-    requires here { token_at tokens.now.spots.items at ≡ Some (token.Word word.Throw) }
-    ensures reads { Answer around.limits (Within Plain around) NoElse stmt_out (λ r. r.to)
-        tokens.now at result }
-    ensures stands { IfOk result (λ r. Stands r.stmt) }
-    ensures moves { IfOk result (λ r. (at < r.to) × (r.to ≤ length tokens.now.spots.items)) }
-{
-    let here = place(tokens, at);
-    let (error, to) = maybe_expr(alloc, tokens, at + 1, around.depth + 1)?;
-    Ok(ended(build::throw_stmt(here, error), to, around.counts))
 }
 
 // `"catch" "(" "Error" "&" name ")"`.

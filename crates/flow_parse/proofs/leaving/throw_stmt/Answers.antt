@@ -9,7 +9,7 @@ use Rattle.flow_parse.specs.Views.{counts_of}
 use Rattle.flow_parse.proofs.Leaves.{then_reads, done, fails, tok_reads, deeper}
 use Rattle.flow_parse.proofs.Deeper.{deeper_fails}
 use Rattle.flow_parse.proofs.Stmts.{throw_left, throw_word}
-use Rattle.flow_parse.proofs.stmt.throw_stmt.Goals as goal
+use Rattle.flow_parse.proofs.leaving.throw_stmt.Goals as goal
 
 pub returns-clause-reads : goal.returns-clause-reads
 returns-clause-reads c =

@@ -5,7 +5,7 @@ use Rattle.flow_tree.specs.declared.token.Sign.TheVariants as sign
 use Rattle.flow_parse.proofs.Looking.{not_true}
 use Rattle.flow_parse.proofs.Leaves.{then_reads, done, fails, first_fails, tok_reads}
 use Rattle.flow_parse.proofs.Stmts.{no_expr_left, some_expr_left, value_semicolon}
-use Rattle.flow_parse.proofs.stmt.maybe_expr.Goals as goal
+use Rattle.flow_parse.proofs.leaving.maybe_expr.Goals as goal
 
 pub returns-then-is_sign-clause-reads : goal.returns-then-is_sign-clause-reads
 returns-then-is_sign-clause-reads c = λ limits.

@@ -5,7 +5,7 @@ use Rattle.std.specs.Option.{option_map}
 use Rattle.flow_parse.specs.Reading.{token_at}
 use Rattle.flow_parse.proofs.Leaves.{then_reads, done, fails, first_fails, answer_become}
 use Rattle.flow_parse.proofs.Stmts.{returned_left, maybe_returned_turns, value_semicolon}
-use Rattle.flow_parse.proofs.stmt.returned.Goals as goal
+use Rattle.flow_parse.proofs.leaving.returned.Goals as goal
 
 pub returns-then-has_bare_return-clause-reads : goal.returns-then-has_bare_return-clause-reads
 returns-then-has_bare_return-clause-reads c = λ limits.

@@ -9,7 +9,7 @@ use Rattle.flow_parse.specs.Views.{counts_of}
 use Rattle.flow_parse.proofs.Leaves.{then_reads, done, fails, tok_reads, deeper}
 use Rattle.flow_parse.proofs.Deeper.{deeper_fails}
 use Rattle.flow_parse.proofs.Stmts.{return_left, return_word}
-use Rattle.flow_parse.proofs.stmt.return_stmt.Goals as goal
+use Rattle.flow_parse.proofs.leaving.return_stmt.Goals as goal
 
 pub returns-clause-reads : goal.returns-clause-reads
 returns-clause-reads c =
