@@ -1,7 +1,11 @@
 -- What holds of texts in quotes.
 use Rattle.std.specs.List.{AllByRecursion}
-use Rattle.std.specs.Prelude.{◌≡◌, ◌^◌, ◌<◌, ◌≤◌, length, ℕ, List}
-use Rattle.flow_base.specs.Quote.{quoted}
+use Rattle.std.specs.Prelude.{◌≡◌, ◌^◌, ◌<◌, ◌≤◌, length, ℕ, List, Bool, not, ◌||◌, ◌==◌}
+use Rattle.flow_base.specs.Quote.{is_printable, quoted}
+
+-- a byte that isn't spelled as itself between quotes
+abbrev pub is_escaped : ℕ → Bool
+is_escaped b = not (is_printable b) || b == 34 || b == 92
 
 -- the bytes of a text: at most 65,535, each below 256
 abbrev pub IsText : List ℕ → Type 0

@@ -8,7 +8,7 @@ ghost use Rattle.flow_trace.specs.Pieces.{words_of, piece_words, room_of, piece_
 
 use crate::line::Line;
 use crate::pieces::{Piece, Pieces, line_pieces};
-use crate::quote::spell_byte;
+use crate::quote::{first_escaped, spell_byte};
 use flow_base::memory::NoMemory;
 use itoa::Buffer;
 use std::alloc::Global;
@@ -74,16 +74,21 @@ impl LineBuf {
         }
     }
 
-    #[tactic(auto, using(crate::proofs::Printing::spelled_text_more))]
+    // The text in quotes, by runs of bytes that are spelled as themselves.
     fn put_quoted(&mut self, text: &[u8])
         requires { length self.old + (2 + 4 * length text.now) ≤ 262238 }
         ensures bytes { self.new ≡ self.old ++ quoted text.now }
         ensures room { length self.new ≤ length self.old + (2 + 4 * length text.now) }
     {
         self.push(b'"');
-        for byte in text {
-            self.put(spell_byte(*byte).bytes());
+        let mut rest = text;
+        while let Some(run) = first_escaped(rest) {
+            let (plain, others) = rest.split_at(run);
+            self.put(plain);
+            self.put(spell_byte(others[0]).bytes());
+            rest = others.split_at(1).1;
         }
+        self.put(rest);
         self.push(b'"');
     }
 

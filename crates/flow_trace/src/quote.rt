@@ -1,7 +1,8 @@
 // Texts in quotes.
 
-ghost use Rattle.std.specs.Prelude.{◌≡◌, ◌≤◌, ◌<◌, ◌+◌, ℕ, List, [], ◌∷◌, ◌++◌, length, take, IfOk};
+ghost use Rattle.std.specs.Prelude.{◌≡◌, ◌≤◌, ◌<◌, ◌+◌, ℕ, List, [], ◌∷◌, ◌++◌, length, take, position, IfOk, IfSome};
 ghost use Rattle.flow_base.specs.Quote.{hex_digit, spelled_byte, quoted};
+ghost use Rattle.flow_trace.specs.Quote.{is_escaped};
 
 use flow_base::memory::NoMemory;
 use std::alloc::Global;
@@ -99,16 +100,28 @@ pub fn spell_byte(byte: u8) -> Spelling
     Spelling::hex(byte / 16, byte % 16)
 }
 
-/// The text in quotes.
-#[tactic(auto, using(crate::proofs::Printing::spelled_text_more))]
+/// The place of the first byte that isn't spelled as itself between quotes, if there is one.
+pub(crate) fn first_escaped(text: &[u8]) -> Option<usize>
+    ensures place { result ≡ position is_escaped text.now }
+    ensures within { IfSome result (λ place. place < length text.now) }
+{
+    text.iter().position(|byte| *byte < b' ' || b'~' < *byte || *byte == b'"' || *byte == b'\\')
+}
+
+/// The text in quotes, by runs of bytes that are spelled as themselves.
 pub fn quote(alloc: Global, text: &[u8]) -> Result<Vec<u8>, NoMemory>
     ensures { IfOk result (λ v. v.items ≡ quoted text.now) }
 {
     let mut out = Vec::new(alloc);
     out.push(b'"')?;
-    for byte in text {
-        out.extend_from_slice(spell_byte(*byte).bytes())?;
+    let mut rest = text;
+    while let Some(run) = first_escaped(rest) {
+        let (plain, others) = rest.split_at(run);
+        out.extend_from_slice(plain)?;
+        out.extend_from_slice(spell_byte(others[0]).bytes())?;
+        rest = others.split_at(1).1;
     }
+    out.extend_from_slice(rest)?;
     out.push(b'"')?;
     Ok(out)
 }
