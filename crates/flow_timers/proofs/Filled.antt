@@ -10,7 +10,7 @@ use Rattle.std.specs.BTreeMap.{insert_entry}
 use Rattle.flow_timers.specs.declared.moment.Event.{Event}
 use Rattle.flow_timers.specs.Moments.{numbered}
 
-all_cons : {X : Type 0} (P : X → Type 0) (x : X) (xs : List X) → P x → All P xs → All P (x ∷ xs)
+pub all_cons : {X : Type 0} (P : X → Type 0) (x : X) (xs : List X) → P x → All P xs → All P (x ∷ xs)
 all_cons P x xs p all zero d lt = p
 all_cons P x xs p all (suc k) d lt = all k d (omega (arith, lt))
 

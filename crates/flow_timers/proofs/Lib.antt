@@ -1,4 +1,5 @@
 pub mod Filled
+pub mod Keeping
 pub mod Numbering
 pub mod Ordered
 pub mod Placing

@@ -1,9 +1,9 @@
 -- Events that stand in the order in which they come, and queues that are restored from them.
 use Rattle.std.proofs.Common.{◌≡◌, ℕ, List, [], ◌∷◌, ◌++◌, sym, ap, ◌∙◌, refl, arith}
-use Rattle.std.specs.Prelude.{Bool, true, false, ◌&&◌, ◌||◌, nat_eq, nat_lt, if◌then◌else◌}
+use Rattle.std.specs.Prelude.{Bool, true, false, if◌then◌else◌}
 use Rattle.std.specs.List.{AllByRecursion, fold}
 use Rattle.std.proofs.lemmas.List.{append-nil, append_assoc}
-use Rattle.flow_timers.specs.Pending.{Pending, Queue, comes_before, is_at, placed, without_event, in_order, StandInOrder, Restores}
+use Rattle.flow_timers.specs.Pending.{Pending, comes_before, is_at, placed, without_event, StandInOrder, Restores}
 
 module _ {A : Type 0} where
   -- of two events only one comes before the other

@@ -2,8 +2,10 @@
 //! time, and at one time with the least number, comes next.
 #![tactic(auto)]
 
+mod keeps;
 pub mod laws;
 mod moment;
 mod timers;
 
+pub use keeps::Keeps;
 pub use timers::Timers;

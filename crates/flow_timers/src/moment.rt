@@ -1,9 +1,10 @@
 // The events of one time.
 
-ghost use Rattle.std.specs.Prelude.{◌≤◌, ◌<◌, ◌≡◌, ◌∷◌, [], List, ◌++◌, map, OnErr, OnOk, IfOk, IfNone, IfSome, option_map, length, ◌==◌};
+ghost use Rattle.std.specs.Prelude.{◌≤◌, ◌<◌, ◌≡◌, ◌∷◌, [], List, ◌++◌, map, OnErr, OnOk, IfOk, IfNone, IfSome, option_map, length, filter, ◌==◌};
 ghost use Rattle.std.specs.List.Sorted.{IsPartitionPoint};
 ghost use Rattle.flow_timers.specs.Moments.{numbered, event_numbered, without_numbered, first_number, at_time, pending_of};
 
+use crate::keeps::Keeps;
 use flow_base::memory::NoMemory;
 use std::alloc::Global;
 use std::collections::VecDeque;
@@ -68,6 +69,13 @@ impl<T: Drop> Moment<T> {
             return self.events.len();
         }
         self.search_after(number)
+    }
+
+    /// Keeps those events of which the test says so.
+    pub fn retain<K: Keeps<T>>(&mut self, test: &K)
+        ensures { self.new ≡ filter (λ e. K.keeps test.now e.what) self.old }
+    {
+        self.events.retain(|event| test.keeps(&event.what));
     }
 
     // How many events have a number up to this.

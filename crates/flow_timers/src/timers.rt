@@ -1,9 +1,10 @@
 // Pending events, by time and number.
 
-ghost use Rattle.std.specs.Prelude.{◌≡◌, ◌+◌, ◌<◌, ◌^◌, [], OnErr, OnOk, IfOk, map};
+ghost use Rattle.std.specs.Prelude.{◌≡◌, ◌+◌, ◌<◌, ◌^◌, [], OnErr, OnOk, IfOk, map, filter};
 ghost use Rattle.flow_timers.specs.Moments.{pending_of, event_of};
 ghost use Rattle.flow_timers.specs.Pending.{no_events, with_event, placed, event_at, without_event, next_event, in_order, StandInOrder};
 
+use crate::keeps::Keeps;
 use crate::moment::Moment;
 use flow_base::memory::NoMemory;
 use std::alloc::Global;
@@ -96,6 +97,18 @@ impl<T: Drop> Timers<T> {
             self.moments.remove(&time);
         }
         Some(what)
+    }
+
+    /// Keeps those pending events of which the test says so, by one walk over all.
+    pub fn retain<K: Keeps<T>>(&mut self, test: &K)
+        ensures { self.new ≡ record self.old {
+          pending = filter (λ e. K.keeps test.now e.what) self.old.pending;
+        } }
+    {
+        self.moments.retain(|_, moment| {
+            moment.retain(test);
+            !moment.is_empty()
+        });
     }
 
     /// The queue with these events, in any order, of which so many were made: the next has the number after `made`.
