@@ -1,3 +1,4 @@
+pub mod Asked
 pub mod BranchesDerived
 pub mod Grouped
 pub mod Paths

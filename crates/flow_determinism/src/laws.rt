@@ -2,10 +2,12 @@
 
 ghost use Rattle.flow_determinism.specs.Laws.{CompilesWritten, ClassesRun, SourcesRun, CompilesWhole, ProgramsKeep, ProgramsRest, SourcesReferred, SourcesEnd};
 ghost use Rattle.flow_determinism.specs.Laws.{ClassesShowOne, SourcesShowOne};
+ghost use Rattle.flow_determinism.specs.Asked.{LinesByDrawn};
 
 use flow_compile_laws::laws::traces::compile_preserves_traces;
 use flow_invariants::laws::fitting::valid_classes_have_one_trace;
 use flow_invariants::laws::unmarked::boundaries_have_no_marked_actor;
+use flow_meaning::laws::TwoKinds;
 
 /// The classes of a program that the front accepts, and in which no use of a local is lost, are valid, and
 /// written as the grammar of class text has classes: each has a block, no path is empty, and the numbers of
@@ -57,4 +59,10 @@ pub fn actors_at_boundaries_are_referred()
 /// steps no future refers to its result, has ended at the end of the event.
 pub fn unreferred_actors_of_programs_end()
     ensures { SourcesEnd }
+{}
+
+/// Of what drawn words were asked for, lines depend on how many there were alone: from worlds that are equal but for the
+/// questions, and have as many, each run of the one has a run of the other with the same lines.
+pub fn lines_go_by_how_many_words_were_drawn<K: TwoKinds>()
+    ensures { LinesByDrawn K.first }
 {}

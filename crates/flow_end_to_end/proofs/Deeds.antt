@@ -145,7 +145,7 @@ module _ {A : Type 0} (puts : A → Line → Result (Unit {0}) OutFault → A �
     nothing = λ g ls. no_more;
     more = λ g h ls ms t. part_more puts g.out h.out ls ms t;
     after = λ g h k ls ms t u. puts_part puts g.out h.out k.out ls ms t u;
-    draws = λ w. refl;
+    draws = λ width w. refl;
   }
 
   brings_in_part : (d : EventAction) → Ready r turns p d x o at m → (stuck : Type 0) (n : Process) (f : RunFault) (b : Inside A) → IsDelivered r m.time n (done_in r turns p.0 d x).proc

@@ -15,7 +15,7 @@ use Rattle.flow_meaning.specs.Burst as burst
 use Rattle.flow_meaning.specs.Burst.{Live, Burst, rests, steps, advance, advanced}
 use Rattle.flow_meaning.specs.Class.{classes}
 use Rattle.flow_meaning.specs.Frame.{Frame}
-use Rattle.flow_meaning.specs.Outside.{What, Boots, Rings, Arrives, Answers, Outside, host, serve, sent_by, fate_in}
+use Rattle.flow_meaning.specs.Outside.{What, Boots, Rings, Arrives, Answers, Outside, host, serve, sent_by, drawn_by, fate_in}
 use Rattle.flow_meaning.specs.Process.{Proc}
 use Rattle.flow_meaning.specs.Runs.{before, after}
 use Rattle.flow_meaning.specs.Step.{Stepped, step}
@@ -51,11 +51,11 @@ sent_on Drawn o m q port text = record { disks = refl; file = refl }
 sent_on (At t) o m q port text = record { disks = refl; file = refl }
 
 served_on : (q : Request) (o : Outside) → AsBefore (serve q o).1 o
-served_on Drew o = record { disks = refl; file = refl }
+served_on (Drew n) o = record { disks = refl; file = refl }
 served_on (Timer k t) o = record { disks = refl; file = refl }
 served_on (Packet q port text) o =
     let v : Outside = record o { sent = suc o.sent } in
-    let s = sent_on (fate_in v q) v v.sent q port text in record { disks = s.disks; file = s.file }
+    let s = sent_on (fate_in v q) (drawn_by (fate_in v q) v) v.sent q port text in record { disks = s.disks; file = s.file }
 served_on (Disks k call) o = record { disks = refl; file = refl }
 
 module _ (r : RawTree) where

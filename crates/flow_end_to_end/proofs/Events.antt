@@ -48,7 +48,7 @@ use Rattle.flow_world_refinement.proofs.Events.Acting.{Going, shown_at}
 use Rattle.flow_world_refinement.proofs.Events.Beginning.{line_begins, event_begins}
 use Rattle.flow_world_refinement.proofs.Events.Doing.{GoesOn, Begins, letter_taken, disk_line_is, answers_plain, void_seen}
 use Rattle.flow_world_refinement.proofs.Events.Whole.{happening, spent_happening}
-use Rattle.flow_world_refinement.proofs.Effects.Vanishing.{loss_is}
+use Rattle.flow_world_refinement.proofs.Effects.Vanishing.{fates_are}
 use Rattle.flow_world_refinement.specs.Traces.Traced.{EventBegan}
 use Rattle.flow_world_refinement.specs.Invariants.{WorldInvariant, latest}
 use Rattle.flow_world_refinement.proofs.Events.Events.{heard_there, none_other}
@@ -290,7 +290,7 @@ module _ (r : RawTree) {A : Type 0} (puts : A → Line → Result (Unit {0}) Out
         unstuck = λ e. process_there u (out (act.Kill p)) p g within (why e);
         part = λ l run. put_then (subst (λ z. puts a z (Ok tt) c) same told)
             (part_more puts c b _ l.proc.core.lines
-            (subst (λ y. PutsPart puts c (map kept_line y.fates) b) (sym (loss_is p u.outside left (out (act.Kill p)) fates g.going.outside loses)) part));
+            (subst (λ fs. PutsPart puts c (map kept_line fs) b) (sym (fates_are p u.outside left (out (act.Kill p)) fates g.going.outside loses)) part));
       }
 
       order_fails : (x : Act) → next_of m.out ≡ Script t (order_of x) left → OrderNames m.out.file.processes (order_of x) → Going r m u (out x) → OrderedBreaks puts x u a f b → Fails r puts (begun_of x) a f b

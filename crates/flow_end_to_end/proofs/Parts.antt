@@ -1,6 +1,6 @@
 -- A burst in memory that breaks off has written a first part of the lines of the burst of the class machine.
 use Rattle.std.proofs.Common.{◌≡◌, ◌⊎◌, inl, inr, ℕ, Bool, true, false, List, [], ◌∷◌, ◌++◌, append_assoc, append-nil, refl, sym, ap, ◌∙◌, subst}
-use Rattle.std.specs.Prelude.{pos}
+use Rattle.std.specs.Prelude.{pos, ◌-ℤ◌}
 use Rattle.std.specs.declared.option.Option.{Option}
 use Rattle.std.specs.declared.option.Option.TheVariants.{None, Some}
 use Rattle.flow_class.specs.Classes.{RawTree}
@@ -142,10 +142,10 @@ module _ {A W : Type 0} (serves : Host W) (shown_by : A → Numbered ℕ → W �
     unwritten (inl same) = subst (λ z. PartOf broke ls a z l) (sym same) (nothing_written ls a p w l (lines_of ls m a p w now) ends)
     unwritten (inr none) = none_in_part ls a b p w l (lines_of ls m a p w now) ends none
 
-    drawn : DrawBroke serves shown_by wrote broke a b → PartOf broke ls a b l
-    drawn (inl t) = unwritten t
-    drawn (inr t) =
-        let said : wrote a [] b = subst (λ ks. wrote a ks b) (parts.draws w) (t p.core.ports w now.world).0 in
+    drawn : (width : ℕ) → DrawBroke serves shown_by wrote broke width a b → PartOf broke ls a b l
+    drawn width (inl t) = unwritten t
+    drawn width (inr t) =
+        let said : wrote a [] b = subst (λ ks. wrote a ks b) (parts.draws width w) (t p.core.ports w now.world).0 in
         none_in_part ls a b p w l (lines_of ls m a p w now) ends (parts.after a b b [] [] said (parts.nothing b []))
 
     sent : (i : _) (number port : _) (text : _) → q.asked ≡ Some (call.SendTo i number port text) → (fits : Bool) → may_send processes number port ≡ fits
@@ -174,7 +174,7 @@ module _ {A W : Type 0} (serves : Host W) (shown_by : A → Numbered ℕ → W �
     served_in_part : (o : Option Call) → q.asked ≡ o → ServingBrokeIf serves shown_by wrote broke processes o a b → PartOf broke ls a b l
     served_in_part None is t = absurd t
     served_in_part (Some (call.Line x)) is t = line_written x is t
-    served_in_part (Some (call.Draw i g lo hi)) is t = drawn t
+    served_in_part (Some (call.Draw i g lo hi)) is t = drawn (natural (hi -ℤ lo)) t
     served_in_part (Some (call.Delay i g ticks)) is t = unwritten t
     served_in_part (Some (call.Listen i g port)) is t = unwritten t
     served_in_part (Some (call.Disk i g request)) is t = unwritten t

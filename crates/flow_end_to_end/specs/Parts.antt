@@ -22,7 +22,7 @@ pub record WritesInPart {A W : Type 0} (serves : Host W) (wrote broke : A → Li
   pub nothing : (a : A) (ls : List Line) → broke a ls a
   pub more : (a b : A) (ls ms : List Line) → broke a ls b → broke a (ls ++ ms) b
   pub after : (a b c : A) (ls ms : List Line) → wrote a ls b → broke b ms c → broke a (ls ++ ms) c
-  pub draws : (w : W) → (serves.serve Drew w).0 ≡ []
+  pub draws : (width : ℕ) (w : W) → (serves.serve (Drew width) w).0 ≡ []
 
 -- of the lines of a process, those after the first ones were written in part
 pub record PartOf {A W : Type 0} (broke : A → List Line → A → Type 0) (ls : List Line) (a b : A) (l : Live W Frame) : Type 0 where

@@ -1,5 +1,5 @@
 -- How far a burst came that breaks off, and what was written then.
-use Rattle.std.specs.Prelude.{◌≡◌, ◌⊎◌, ℕ, Bool, true, false, List, [], ◌∷◌}
+use Rattle.std.specs.Prelude.{◌≡◌, ◌⊎◌, ℕ, ◌-ℤ◌, Bool, true, false, List, [], ◌∷◌}
 use Rattle.std.specs.declared.option.Option.{Option}
 use Rattle.std.specs.declared.option.Option.TheVariants.{None, Some}
 use Rattle.flow_base.specs.declared.ids.ProcId.{ProcId}
@@ -41,8 +41,8 @@ module _ {A W : Type 0} (serves : Host W) (shows : A → Numbered ℕ → W → 
   Unwritten a b = (b ≡ a) ⊎ broke a [] b
 
   -- what a step asked is served in part
-  abbrev pub DrawBroke : A → A → Type 0
-  DrawBroke a b = Unwritten a b ⊎ Serves serves shows wrote Drew a b
+  abbrev pub DrawBroke : (width : ℕ) → A → A → Type 0
+  DrawBroke width a b = Unwritten a b ⊎ Serves serves shows wrote (Drew width) a b
 
   abbrev pub SendBroke : (fits : Bool) → (number port : ℕ) → List ℕ → A → A → Type 0
   SendBroke true number port text a b = (b ≡ a) ⊎ LinesOf serves shows broke (Packet number port text) a b
@@ -50,7 +50,7 @@ module _ {A W : Type 0} (serves : Host W) (shows : A → Numbered ℕ → W → 
 
   abbrev pub ServingBroke : (processes : ℕ) → Call → A → A → Type 0
   ServingBroke n (call.Line l) a b = broke a (l ∷ []) b
-  ServingBroke n (call.Draw i g lo hi) a b = DrawBroke a b
+  ServingBroke n (call.Draw i g lo hi) a b = DrawBroke (natural (hi -ℤ lo)) a b
   ServingBroke n (call.Delay i g ticks) a b = Unwritten a b
   ServingBroke n (call.Listen i g port) a b = Unwritten a b
   ServingBroke n (call.Disk i g request) a b = Unwritten a b

@@ -26,7 +26,7 @@ module _ {A W : Type 0} (serves : Host W) (shows : A → Numbered ℕ → W → 
 
   -- the next drawn word gives one of so many numbers from the first on
   abbrev pub Draws : (lo : ℤ) (width : ℕ) → ℤ → A → A → Type 0
-  Draws lo width n a b = Serves Drew a b × ((ps : Numbered ℕ) (w : W) → shows a ps w → n ≡ scaled lo width (serves.supply w).word)
+  Draws lo width n a b = Serves (Drew width) a b × ((ps : Numbered ℕ) (w : W) → shows a ps w → n ≡ scaled lo width (serves.supply w).word)
 
   -- lines are written, and nothing else changes
   abbrev pub Writes : List Line → A → A → Type 0

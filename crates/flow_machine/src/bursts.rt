@@ -36,8 +36,8 @@ fn draw<H: Host>(
         actor goal lo width process.old host.old process.new host.new) }
     ensures cause { RunCause (H.faults host.old) (H.faults host.new) result }
     ensures kept { H.kept host.new ≡ H.kept host.old }
-    ensures broke { OnErr result
-        (DrawBroke H.serves H.shows H.wrote H.broke host.old host.new) }
+    ensures broke { let width = natural (hi -ℤ lo) in
+        OnErr result (DrawBroke H.serves H.shows H.wrote H.broke width host.old host.new) }
     ensures stuck { IsErrOf result Stuck → IsOperand goal }
 {
     match width(lo, hi) {

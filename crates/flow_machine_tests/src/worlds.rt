@@ -5,6 +5,7 @@ ghost use Rattle.flow_worldfile.specs.Worlds.{IsInRange, seen};
 
 use crate::lines::{are_lines, classes};
 use flow_base::ids::ProcId;
+use flow_draw::question::Question;
 use flow_monitor::Panel;
 use flow_trace::out::LineVec;
 use flow_world::trace::put_rest;
@@ -120,5 +121,46 @@ fn all_start(alloc: Global) -> Result<bool, Fail> {
 #[test]
 fn a_world_starts_again(rt: HostRuntime) -> Result<(), Fail> {
     assert!(rt; all_start(rt.alloc())?);
+    Ok(())
+}
+
+// `main` draws a number, sends a packet, which is lost, and asks its disk.
+const DRAWING: &[u8] =
+    b"ACTOR Future<Void> main(int p) { int k = randomInt(0, 10); trace(k); sendTo(0, 7, \"a\"); wait(syncFile(\"f\")); return Void(); }";
+
+const DRAWN: &[u8] = b"loss 300\ndiskdelay 1 4\nword 7\nword 0\nword 5\n";
+
+/// What its words are asked for.
+const ASKED: [Question; 3] = [
+    Question::Among(10),
+    Question::Loses(300),
+    Question::Among(3),
+];
+
+// Whether the first questions of a run are noted.
+fn notes_run(world: &mut World, room: usize) -> Result<bool, Fail> {
+    Ok(skipped(world, 9)? == Some(Ending::Idle) && world.noted() == &ASKED[..room.min(3)])
+}
+
+fn notes_twice(alloc: Global, world: &mut World, room: usize) -> Result<bool, Fail> {
+    if !notes_run(world, room)? {
+        return Ok(false);
+    }
+    world.start_again(file(alloc, DRAWN)?)?;
+    Ok(world.noted().is_empty() && notes_run(world, room)?)
+}
+
+fn notes(alloc: Global, room: usize) -> Result<bool, Fail> {
+    let classes = classes(alloc, DRAWING)?;
+    let file = file(alloc, DRAWN)?;
+    let mut world = World::noting(alloc, classes, file, room)?;
+    notes_twice(alloc, &mut world, room)
+}
+
+#[test]
+fn a_world_notes_what_is_asked(rt: HostRuntime) -> Result<(), Fail> {
+    assert!(rt; notes(rt.alloc(), 0)?);
+    assert!(rt; notes(rt.alloc(), 2)?);
+    assert!(rt; notes(rt.alloc(), 5)?);
     Ok(())
 }

@@ -89,8 +89,8 @@ gives_open_even i g =
 
 draw_fair : (s : Supply) (i : ℕ) (g : Goal) (lo hi : ℤ) → FairAsk (draw s i g lo hi)
 draw_fair s i g lo hi =
-    either (between (hi -ℤ lo) 1 (2 ^ 32)) (λ c. (gives i g (IntValue (scaled lo (natural (hi -ℤ lo)) s.word)) c, Some Drew)) (throws i bad_argument)
-    (asking (gives i g (IntValue (scaled lo (natural (hi -ℤ lo)) s.word))) (λ c. Some Drew) (gives_even i g _) (λ k c. refl)) (throws_fair i bad_argument)
+    either (between (hi -ℤ lo) 1 (2 ^ 32)) (λ c. (gives i g (IntValue (scaled lo (natural (hi -ℤ lo)) s.word)) c, Some (Drew (natural (hi -ℤ lo))))) (throws i bad_argument)
+    (asking (gives i g (IntValue (scaled lo (natural (hi -ℤ lo)) s.word))) (λ c. Some (Drew (natural (hi -ℤ lo)))) (gives_even i g _) (λ k c. refl)) (throws_fair i bad_argument)
 
 delay_fair : (i : ℕ) (g : Goal) (time : ℕ) → FairAsk (delay i g time)
 delay_fair i g time =

@@ -60,7 +60,7 @@ between z lo hi = int_le (pos lo) z && int_le z (pos hi)
 abbrev pub draw : Supply → (actor : ℕ) → Goal → (lo hi : ℤ) → Core → Reaction
 draw s i goal lo hi c =
     if between (hi -ℤ lo) 1 (2 ^ 32)
-    then (gives i goal (IntValue (scaled lo (natural (hi -ℤ lo)) s.word)) c, Some Drew)
+    then (gives i goal (IntValue (scaled lo (natural (hi -ℤ lo)) s.word)) c, Some (Drew (natural (hi -ℤ lo))))
     else throws i bad_argument c
 
 -- a timer, not after 2^62; a negative time counts as 0

@@ -65,10 +65,10 @@ pub record Ask : Type 0 where
   pub left : ℕ
   pub act : Act
 
--- what a process asks of the world after a step: a drawn word was taken; a timer is wanted that sets a cell at a
--- time; a packet is sent; a disk is asked, and the answer goes into a cell
+-- what a process asks of the world after a step: a word was drawn for one of so many numbers; a timer is wanted that sets a
+-- cell at a time; a packet is sent; a disk is asked, and the answer goes into a cell
 pub data Request : Type 0 where
-  Drew : Request
+  Drew : (width : ℕ) → Request
   Timer : (cell time : ℕ) → Request
   Packet : (process port : ℕ) (text : List ℕ) → Request
   Disks : (cell : ℕ) → DiskCall ℕ → Request

@@ -12,7 +12,6 @@ use Rattle.flow_worldfile.specs.declared.directive.Order.{Order}
 use Rattle.flow_worldfile.specs.declared.directive.Order.TheVariants.{Kill, Stop, Boot, Cut, Heal, DiskFail}
 use Rattle.flow_value.specs.declared.value.RecordId.TheVariants as record_id
 use Rattle.flow_value.specs.Values.{ValueTree, IntValue, TextValue, VoidValue, CompositeValue, OutcomeTree, GoodOutcome, BadOutcome, values_of_list, RecordWhole}
-use Rattle.flow_draw.specs.Words.{word_at}
 use Rattle.flow_numbered.specs.Numbered.{thing}
 use Rattle.flow_meaning.specs.Requests.{DiskCall, ReadCall, WriteCall, SyncCall, SizeCall}
 use Rattle.flow_meaning.specs.Process.{Core, Proc, Engine}
@@ -22,7 +21,7 @@ use Rattle.flow_simdisk.specs.declared.ask.DiskReply.{DiskReply}
 use Rattle.flow_simdisk.specs.declared.ask.DiskReply.TheVariants.{Text, Done, Size, Failed}
 use Rattle.flow_simdisk.specs.declared.write.Kept.{Kept}
 use Rattle.flow_simdisk.specs.Disk.{Disk, File, Losing, served, power_lost}
-use Rattle.flow_meaning.specs.Outside.{What, Boots, Rings, Arrives, Answers, Outside, process_id, healed}
+use Rattle.flow_meaning.specs.Outside.{What, Boots, Rings, Arrives, Answers, Outside, process_id, word_in, with_asked, healed}
 
 -- a process is up from its boot to its kill
 pub record Place (A : Type 0) : Type 0 where
@@ -40,7 +39,7 @@ outside_at_start w = record {
   time = 0;
   ran = 0;
   sent = 0;
-  drawn = 0;
+  asked = [];
   events = record {
     made = w.processes;
     pending = map (λ p. record { time = 0; number = suc p; what = Boots p })
@@ -127,13 +126,13 @@ abbrev pub lost : {A : Type 0} → List Line → ℕ → Place A → Outside →
 lost head p at w l = record {
   head = head ++ map kept_line l.fates;
   place = record { up = false; proc = vanish at.proc };
-  out = with_disk (record (with_left w (without_requests p w.events.pending)) { drawn = l.taken }) p
+  out = with_disk (with_asked (with_left w (without_requests p w.events.pending)) l.asked) p
       (record { fails = (disk_of w p).fails; files = l.left });
 }
 
 -- a kill: the disk loses what it may, and the process is gone
 abbrev pub killed : {A : Type 0} → List Line → ℕ → Place A → Outside → Begun A
-killed head p at w = lost head p at w (power_lost (word_at w.file.seed w.file.words) w.drawn (disk_of w p).files)
+killed head p at w = lost head p at w (power_lost (word_in w) (disk_of w p).files)
 
 abbrev pub alone : {A : Type 0} → Line → Place A → Outside → Begun A
 alone l at w = record { head = l ∷ []; place = at; out = w }

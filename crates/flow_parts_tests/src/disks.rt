@@ -5,6 +5,7 @@ ghost use Rattle.std.specs.Prelude.{◌≤◌, length};
 use flow_base::memory::NoMemory;
 use flow_base::text::Text;
 use flow_draw::Draws;
+use flow_draw::question::Question;
 use flow_simdisk::{Disk, DiskReply, DiskState, FileState, Kept};
 use std::alloc::Global;
 
@@ -178,7 +179,7 @@ fn uses_up_with(alloc: Global, draws: &mut Draws) -> Result<bool, NoMemory> {
 }
 
 fn uses_up_alone(alloc: Global) -> Result<bool, NoMemory> {
-    let mut draws = Draws::new(0, vec![in alloc; 0]?);
+    let mut draws = Draws::new(alloc, 0, vec![in alloc; 0]?);
     uses_up_with(alloc, &mut draws)
 }
 
@@ -212,11 +213,16 @@ fn are_fates(fates: &[Kept]) -> bool {
     }
 }
 
+/// What a loss of power asks of a write of two bytes, which stays in part, and of one that is lost.
+const LOSS: [Question; 3] = [Question::Among(3), Question::Among(2), Question::Among(3)];
+
 // Of two writes a loss of power keeps one byte.
 fn loses_by_words(disk: &mut Disk, draws: &mut Draws) -> Result<bool, NoMemory> {
     let told = kill(disk, draws)?;
     match &told {
-        Some(fates) => Ok(draws.used() == 3 && are_fates(fates)),
+        Some(fates) => Ok(
+            draws.used() == 3 && draws.noted() == LOSS.as_slice() && are_fates(fates),
+        ),
         None => Ok(false),
     }
 }
@@ -249,7 +255,7 @@ fn loses_power_with(alloc: Global, draws: &mut Draws) -> Result<bool, NoMemory> 
 }
 
 fn loses_power_alone(alloc: Global) -> Result<bool, NoMemory> {
-    let mut draws = Draws::new(0, vec![in alloc; 5, 3, 4]?);
+    let mut draws = Draws::noting(alloc, 0, vec![in alloc; 5, 3, 4]?, 4)?;
     loses_power_with(alloc, &mut draws)
 }
 

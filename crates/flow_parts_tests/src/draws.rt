@@ -4,6 +4,7 @@ ghost use Rattle.std.specs.Prelude.{◌+◌, ◌<◌, ◌≤◌, ◌^◌};
 
 use flow_base::memory::NoMemory;
 use flow_draw::Draws;
+use flow_draw::question::Question;
 use std::alloc::Global;
 
 /// The first outputs of PCG's 32-bit generator for the state 42 on stream 54, as its authors print
@@ -26,7 +27,7 @@ fn takes_all(draws: &mut Draws, words: &[u32]) -> bool {
 }
 
 fn seed_is_told(alloc: Global) -> bool {
-    let mut draws = Draws::new(42, Vec::new(alloc));
+    let mut draws = Draws::new(alloc, 42, Vec::new(alloc));
     takes_all(&mut draws, &FIRST_OUTPUTS)
 }
 
@@ -39,7 +40,7 @@ fn a_seed_gives_its_outputs(rt: HostRuntime) {
 const LISTED_FIRST: [u32; 4] = [7, 4294967295, 2707161783, 2068313097];
 
 fn lists_first(alloc: Global) -> Result<bool, NoMemory> {
-    let mut draws = Draws::new(42, vec![in alloc; 7, 4294967295]?);
+    let mut draws = Draws::new(alloc, 42, vec![in alloc; 7, 4294967295]?);
     Ok(takes_all(&mut draws, &LISTED_FIRST))
 }
 
@@ -59,13 +60,53 @@ fn scales(draws: &mut Draws) -> bool
 }
 
 fn scales_words(alloc: Global) -> bool {
-    let mut draws = Draws::new(42, Vec::new(alloc));
+    let mut draws = Draws::new(alloc, 42, Vec::new(alloc));
     scales(&mut draws)
 }
 
 #[test]
 fn drawn_words(rt: HostRuntime) {
     assert!(rt; scales_words(rt.alloc()));
+}
+
+/// What five words are asked for.
+const ASKED: [Question; 5] = [
+    Question::Among(10),
+    Question::Among(1),
+    Question::Loses(999),
+    Question::Loses(1),
+    Question::Among(1 << 32),
+];
+
+// Whether the words 13, 7, 999, 1,000 and the greatest answer that.
+fn answers(draws: &mut Draws) -> bool
+    requires { draws.old.used + 5 < 2 ^ 63 }
+{
+    draws.below(10) == 3
+        && draws.below(1) == 0
+        && !draws.loses(999)
+        && draws.loses(1)
+        && draws.next() == 4294967295
+}
+
+// Whether the first questions are noted, in their order.
+fn has_noted(draws: &Draws, room: usize) -> bool {
+    draws.room() == room && draws.noted() == &ASKED[..room.min(5)]
+}
+
+fn notes(alloc: Global, room: usize) -> Result<bool, NoMemory> {
+    let words = vec![in alloc; 13, 7, 999, 1000, 4294967295]?;
+    let mut draws = Draws::noting(alloc, 42, words, room)?;
+    Ok(answers(&mut draws) && has_noted(&draws, room))
+}
+
+#[test]
+fn words_answer_and_questions_are_noted(rt: HostRuntime) -> Result<(), NoMemory> {
+    assert!(rt; notes(rt.alloc(), 0)?);
+    assert!(rt; notes(rt.alloc(), 2)?);
+    assert!(rt; notes(rt.alloc(), 5)?);
+    assert!(rt; notes(rt.alloc(), 9)?);
+    Ok(())
 }
 
 // Whether the next words of both are alike.
@@ -85,7 +126,7 @@ fn are_alike(draws: &mut Draws, there: &mut Draws, taken: u64) -> bool {
 fn begins_there(alloc: Global, draws: &mut Draws, taken: u64) -> Result<bool, NoMemory>
     requires { taken ≤ 2 ^ 62 }
 {
-    let mut there = Draws::at(42, vec![in alloc; 7, 8, 9]?, taken);
+    let mut there = Draws::at(alloc, 42, vec![in alloc; 7, 8, 9]?, taken);
     Ok(are_alike(draws, &mut there, taken))
 }
 
@@ -99,7 +140,7 @@ fn first_unlike(alloc: Global, draws: &mut Draws) -> Result<Option<u64>, NoMemor
 }
 
 fn unlike_after(alloc: Global) -> Result<Option<u64>, NoMemory> {
-    let mut draws = Draws::new(42, vec![in alloc; 7, 8, 9]?);
+    let mut draws = Draws::new(alloc, 42, vec![in alloc; 7, 8, 9]?);
     first_unlike(alloc, &mut draws)
 }
 

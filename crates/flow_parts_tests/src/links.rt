@@ -6,6 +6,7 @@ use flow_base::ids::ProcId;
 use flow_base::memory::NoMemory;
 use flow_base::text::Text;
 use flow_draw::Draws;
+use flow_draw::question::Question;
 use flow_simnet::{Fate, Net, NetState, Packet, Sent};
 use std::alloc::Global;
 
@@ -98,7 +99,7 @@ fn overtakes_over(alloc: Global, draws: &mut Draws) -> Result<bool, NoMemory> {
 }
 
 fn overtakes_alone(alloc: Global) -> Result<bool, NoMemory> {
-    let mut draws = Draws::new(0, vec![in alloc; 0, 2, 0, 1, 0, 0]?);
+    let mut draws = Draws::new(alloc, 0, vec![in alloc; 0, 2, 0, 1, 0, 0]?);
     overtakes_over(alloc, &mut draws)
 }
 
@@ -155,13 +156,51 @@ fn cuts(alloc: Global, net: &mut Net, draws: &mut Draws) -> Result<bool, NoMemor
     )
 }
 
+// What a packet that is lost and one that comes are asked for.
+const LOST: [Question; 1] = [Question::Loses(500)];
+
+const COMES: [Question; 3] = [
+    Question::Loses(500),
+    Question::Loses(500),
+    Question::Among(3),
+];
+
+// A cut packet asks nothing, one that is lost one question, and one that comes two.
+fn asks(alloc: Global, net: &mut Net, draws: &mut Draws) -> Result<bool, NoMemory> {
+    Ok(
+        cut(net)
+            && fate(alloc, net, draws, 1, 2)? == Some(Fate::Cut)
+            && draws.noted().is_empty()
+            && fate(alloc, net, draws, 2, 2)? == Some(Fate::Drawn)
+            && draws.noted() == LOST.as_slice()
+            && fate(alloc, net, draws, 2, 2)? == Some(Fate::At(6))
+            && draws.noted() == COMES.as_slice(),
+    )
+}
+
+fn asks_over(alloc: Global, draws: &mut Draws) -> Result<bool, NoMemory> {
+    let mut net = Net::new(alloc, 4, (1, 4), 500)?;
+    asks(alloc, &mut net, draws)
+}
+
+fn asks_alone(alloc: Global) -> Result<bool, NoMemory> {
+    let mut draws = Draws::noting(alloc, 0, vec![in alloc; 499, 500, 9]?, 4)?;
+    asks_over(alloc, &mut draws)
+}
+
+#[test]
+fn questions_of_packets(rt: HostRuntime) -> Result<(), NoMemory> {
+    assert!(rt; asks_alone(rt.alloc())?);
+    Ok(())
+}
+
 fn cuts_over(alloc: Global, draws: &mut Draws) -> Result<bool, NoMemory> {
     let mut net = Net::new(alloc, 4, (1, 2), 500)?;
     cuts(alloc, &mut net, draws)
 }
 
 fn cuts_alone(alloc: Global) -> Result<bool, NoMemory> {
-    let mut draws = Draws::new(0, vec![in alloc; 499, 9]?);
+    let mut draws = Draws::new(alloc, 0, vec![in alloc; 499, 9]?);
     cuts_over(alloc, &mut draws)
 }
 
@@ -197,7 +236,7 @@ fn heals_over(alloc: Global, draws: &mut Draws) -> Result<bool, NoMemory> {
 }
 
 fn heals_alone(alloc: Global) -> Result<bool, NoMemory> {
-    let mut draws = Draws::new(0, vec![in alloc; 500, 9]?);
+    let mut draws = Draws::new(alloc, 0, vec![in alloc; 500, 9]?);
     heals_over(alloc, &mut draws)
 }
 
@@ -304,7 +343,7 @@ fn arrivals_over(alloc: Global, draws: &mut Draws) -> Result<Option<u64>, NoMemo
 }
 
 fn arrivals_alone(alloc: Global) -> Result<Option<u64>, NoMemory> {
-    let mut draws = Draws::new(7, Vec::new(alloc));
+    let mut draws = Draws::new(alloc, 7, Vec::new(alloc));
     arrivals_over(alloc, &mut draws)
 }
 

@@ -17,7 +17,7 @@ use Rattle.flow_meaning.specs.Step.{Stepped, step}
 use Rattle.flow_meaning.specs.Law.{AtRest}
 use Rattle.flow_meaning.specs.Orderly.{UnlessStopped}
 use Rattle.flow_meaning.specs.Burst.{Live, Burst, rests, steps, serve, advanced, advance}
-use Rattle.flow_meaning.specs.Outside.{What, Boots, Rings, Arrives, Answers, Outside, host, sent_by, fate_in}
+use Rattle.flow_meaning.specs.Outside.{What, Boots, Rings, Arrives, Answers, Outside, host, sent_by, drawn_by, fate_in}
 use Rattle.flow_meaning.specs.Outside as outside
 use Rattle.flow_meaning.specs.World.{Place, World, Begun, Next, Nothing, Script, Event, next_of, ordered, arrived, listener, happened, process_of, process_in, ready, counted, with_left, begun_by, ending, at_start}
 use Rattle.flow_meaning.specs.Runs.{Runs, ends, spent, event, before, after, lines_of, ClassTrace}
@@ -45,9 +45,9 @@ sent_clock Drawn w m q port text = (refl, refl)
 sent_clock (At time) w m q port text = (refl, refl)
 
 request_clock : (q : Request) (w : Outside) → SameClock w (outside.serve q w).1
-request_clock Drew w = (refl, refl)
+request_clock (Drew n) w = (refl, refl)
 request_clock (Timer cell time) w = (refl, refl)
-request_clock (Packet q port text) w = let v = record w { sent = suc w.sent } in sent_clock (fate_in v q) v v.sent q port text
+request_clock (Packet q port text) w = let v = record w { sent = suc w.sent } in sent_clock (fate_in v q) (drawn_by (fate_in v q) v) v.sent q port text
 request_clock (Disks cell call) w = (refl, refl)
 
 module _ (r : RawTree) (leads : LeadOn r) where

@@ -222,7 +222,7 @@ module _ (r : RawTree) (i : ℕ) (xs : Numbered Frame) (e : Entry) (g : Frame) (
   effect_fits types s k goal (Start class args) t go h st o none w y n = absurd (n class args refl)
   effect_fits types s k goal (Draw lo hi) t go h st o none w y n =
       either_fits types (between (hi -ℤ lo) 1 (2 ^ 32)) _ (throws i bad_argument k)
-      (gives_task r types (Some Drew) i goal (IntValue (scaled lo (natural (hi -ℤ lo)) s.word)) t k xs e g c h go code st o none w y tt) (throws_fit types bad_argument k go h st o)
+      (gives_task r types (Some (Drew (natural (hi -ℤ lo)))) i goal (IntValue (scaled lo (natural (hi -ℤ lo)) s.word)) t k xs e g c h go code st o none w y tt) (throws_fit types bad_argument k go h st o)
   effect_fits types s k goal (Delay ticks) t go h st o none w y n =
       either_fits types (nat_le (s.now + natural ticks) (2 ^ 62)) _ (throws i out_of_range k)
       (open_fits (Some (Timer (suc k.made) (s.now + natural ticks))) types k goal VoidType t go h st o none w y (new_type types (suc k.made) (FutureType VoidType)))

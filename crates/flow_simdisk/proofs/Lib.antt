@@ -1,3 +1,4 @@
+pub mod Losses
 pub mod Naming
 pub mod Overlays
 pub mod Whole

@@ -1,6 +1,6 @@
 -- Files by their names.
 use Rattle.std.proofs.Common.{◌≡◌, ◌≢◌, ◌++◌, ℕ, zero, suc, ◌+◌, ◌-◌, ◌*◌, ◌≤◌, List, [], ◌∷◌, map, length, ap, sym, subst, ◌∙◌, refl, Some, None, arith}
-use Rattle.std.specs.Prelude.{Bool, true, false, nat_lt, if◌then◌else◌, Result, Ok, Err, OnOk, OnErr, fold}
+use Rattle.std.specs.Prelude.{Bool, true, false, ◌==◌, vec_len, nat_lt, if◌then◌else◌, Result, Ok, Err, OnOk, OnErr, fold}
 use Rattle.std.specs.List.{All, AllByRecursion}
 use Rattle.std.specs.List.Sorted.{IsStrictlySortedBy}
 use Rattle.std.specs.declared.cmp.Ordering.{Ordering}
@@ -14,7 +14,7 @@ use Rattle.std.specs.Map.{lookup, set_value, keys_of}
 use Rattle.std.specs.BTreeMap.{is_at, insert_entry}
 use Rattle.std.proofs.lemmas.Cmp.{nat_list_cmp_total}
 use Rattle.std.proofs.lemmas.List.Sums.{sum_by-cons}
-use Rattle.std.proofs.lemmas.List.{append-nil, append_assoc}
+use Rattle.std.proofs.lemmas.List.{append-nil, append_assoc, nil_from_length}
 use Rattle.std.proofs.lemmas.List.Elements.{All-cons, All-tail}
 use Rattle.std.proofs.lemmas.Map.{lookup-none}
 use Rattle.std.proofs.lemmas.Map.Entries.{none_below_head}
@@ -176,6 +176,12 @@ there_found test (e ∷ es) f all found = by (there_found test es f (λ k d lt. 
 pub some_length : {X : Type 0} (xs : List X) → xs ≢ [] → 1 ≤ length xs
 some_length [] some = absurd (some refl)
 some_length (x ∷ xs) some = omega arith
+
+pub none_left : (v : Vec ℕ Global) (b : Bool) → b ≡ (vec_len v == 0) → b ≡ true → v.items ≡ []
+none_left v b is held = nil_from_length v.items (sym v.ok.0 ∙ none v.len (sym is ∙ held))
+  where
+    none : (n : ℕ) → (n == 0) ≡ true → n ≡ 0
+    none n e = grind (arith, e)
 
 -- a request that takes effect
 pub served_done : (q : DiskCall ℕ) (n : ℕ) (fs : List (List ℕ × File)) → nat_lt 0 n ≡ false

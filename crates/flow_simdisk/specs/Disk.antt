@@ -6,6 +6,8 @@ use Rattle.std.specs.Ordering.{nat_cmp}
 use Rattle.std.specs.Cmp.Lexicographic.{slice_cmp}
 use Rattle.std.specs.Map.{lookup, set_value}
 use Rattle.std.specs.BTreeMap.{is_at, insert_entry}
+use Rattle.flow_draw.specs.declared.question.Question.{Question}
+use Rattle.flow_draw.specs.declared.question.Question.TheVariants.{Among}
 use Rattle.flow_simdisk.specs.declared.ask.DiskReply.{DiskReply}
 use Rattle.flow_simdisk.specs.declared.ask.DiskReply.TheVariants.{Text, Done, Size, Failed}
 use Rattle.flow_simdisk.specs.declared.write.Write.{Write}
@@ -93,15 +95,15 @@ abbrev pub Serves : DiskCall ℕ → Disk → Disk → DiskReply → Type 0
 Serves q before after reply = (after, reply) ≡ served q before.fails before.files
 
 -- what a loss of power keeps of a write: by a word, all of it, nothing, or a first part whose length a
--- second word gives; with the words that it takes
+-- second word gives; with what the words are asked for
 pub record Fate : Type 0 where
   pub kept : ℕ
-  pub words : ℕ
+  pub asked : List Question
 
 abbrev pub fate_by : ℕ → ℕ → ℕ → Fate
-fate_by zero size next = record { kept = size; words = 1 }
-fate_by (suc zero) size next = record { kept = 0; words = 1 }
-fate_by (suc (suc n)) size next = record { kept = next % size; words = 2 }
+fate_by zero size next = record { kept = size; asked = Among 3 ∷ [] }
+fate_by (suc zero) size next = record { kept = 0; asked = Among 3 ∷ [] }
+fate_by (suc (suc n)) size next = record { kept = next % size; asked = Among 3 ∷ Among size ∷ [] }
 
 -- the fate of a write when the words from this number on are drawn
 abbrev pub fate : (ℕ → ℕ) → ℕ → Write → Fate
@@ -111,22 +113,22 @@ fate word k w = fate_by (word k % 3) (length w.text) (word (suc k))
 abbrev pub kept_of : List ℕ → Write → ℕ → Kept
 kept_of x w n = record { name = x; offset = w.offset; length = length w.text; kept = n }
 
--- a loss of power in progress: what is left so far, the words taken, and what became of each write so far
+-- a loss of power in progress: what is left so far, what its words were asked for, and what became of each write so far
 pub record Losing (A : Type 0) : Type 0 where
   pub left : A
-  pub taken : ℕ
+  pub asked : List Question
   pub fates : List Kept
 
 -- what is kept of each write is applied in order
 abbrev pub lose_write : (ℕ → ℕ) → List ℕ → Losing (List ℕ) → Write → Losing (List ℕ)
 lose_write word x l w = record {
-  left = written l.left w.offset (take (fate word l.taken w).kept w.text);
-  taken = l.taken + (fate word l.taken w).words;
-  fates = l.fates ++ kept_of x w (fate word l.taken w).kept ∷ [];
+  left = written l.left w.offset (take (fate word (length l.asked) w).kept w.text);
+  asked = l.asked ++ (fate word (length l.asked) w).asked;
+  fates = l.fates ++ kept_of x w (fate word (length l.asked) w).kept ∷ [];
 }
 
-abbrev pub lose_file : (ℕ → ℕ) → ℕ → List Kept → List ℕ → File → Losing (List ℕ)
-lose_file word taken fates x f = fold (lose_write word x) (record { left = f.durable; taken = taken; fates = fates }) f.unsynced
+abbrev pub lose_file : (ℕ → ℕ) → List Question → List Kept → List ℕ → File → Losing (List ℕ)
+lose_file word asked fates x f = fold (lose_write word x) (record { left = f.durable; asked = asked; fates = fates }) f.unsynced
 
 -- a file without a byte isn't there
 abbrev pub with_bytes : List (List ℕ × File) → List ℕ → List ℕ → List (List ℕ × File)
@@ -134,12 +136,12 @@ with_bytes fs x [] = fs
 with_bytes fs x (b ∷ bs) = with_file fs x (record { durable = b ∷ bs; unsynced = [] })
 
 abbrev pub lose_next : List (List ℕ × File) → List ℕ → Losing (List ℕ) → Losing (List (List ℕ × File))
-lose_next fs x l = record { left = with_bytes fs x l.left; taken = l.taken; fates = l.fates }
+lose_next fs x l = record { left = with_bytes fs x l.left; asked = l.asked; fates = l.fates }
 
 -- all files of a disk, in the order of their names
 abbrev pub lose_files : (ℕ → ℕ) → Losing (List (List ℕ × File)) → List (List ℕ × File) → Losing (List (List ℕ × File))
-lose_files word l fs = fold (λ l f. lose_next l.left f.0 (lose_file word l.taken l.fates f.0 f.1)) l fs
+lose_files word l fs = fold (λ l f. lose_next l.left f.0 (lose_file word l.asked l.fates f.0 f.1)) l fs
 
--- a loss of power on a disk when so many words were taken
-abbrev pub power_lost : (ℕ → ℕ) → ℕ → List (List ℕ × File) → Losing (List (List ℕ × File))
-power_lost word taken fs = lose_files word (record { left = []; taken = taken; fates = [] }) fs
+-- a loss of power on a disk, by the words that are drawn from now on
+abbrev pub power_lost : (ℕ → ℕ) → List (List ℕ × File) → Losing (List (List ℕ × File))
+power_lost word fs = lose_files word (record { left = []; asked = []; fates = [] }) fs

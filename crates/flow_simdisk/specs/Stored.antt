@@ -7,7 +7,8 @@ use Rattle.std.specs.List.Sorted.{IsStrictlySortedBy}
 use Rattle.std.specs.Ordering.{nat_cmp}
 use Rattle.std.specs.Cmp.Lexicographic.{slice_cmp}
 use Rattle.std.specs.Map.{keys_of}
-use Rattle.flow_draw.specs.Words.{Drawn, word_at}
+use Rattle.flow_draw.specs.declared.question.Question.{Question}
+use Rattle.flow_draw.specs.Words.{Drawn, word_in, asked}
 use Rattle.flow_simdisk.specs.declared.write.Write.{Write}
 use Rattle.flow_simdisk.specs.declared.write.Kept.{Kept}
 use Rattle.flow_simdisk.specs.declared.state.FileState.{FileState}
@@ -84,14 +85,20 @@ HasRisingNames fs = IsStrictlySortedBy (slice_cmp nat_cmp) (keys_of fs)
 abbrev pub StandInOrder : Type 0
 StandInOrder = (fs : List (List ℕ × File)) → HasRisingNames fs → in_order_of_names fs ≡ fs
 
--- the words of these draws, by number
-abbrev pub drawn_words : Drawn → ℕ → ℕ
-drawn_words d = word_at d.seed d.listed
-
 -- the most words that a loss of power takes: two for each write
 abbrev pub most_words : List (List ℕ × File) → ℕ
 most_words fs = 2 * sum_by (λ f. length f.1.unsynced) fs
 
 -- a loss of power that has come so far
-abbrev pub losing : {A : Type 0} → A → ℕ → List Kept → Losing A
-losing left taken fates = record { left = left; taken = taken; fates = fates }
+abbrev pub losing : {A : Type 0} → A → List Question → List Kept → Losing A
+losing left asked fates = record { left = left; asked = asked; fates = fates }
+
+-- a loss of power has come as far as this from the draws at its start: what is left, what became of writes, the draws now
+abbrev pub HasCome : {A : Type 0} → Losing A → (start : Drawn) → A → List Kept → (now : Drawn) → Type 0
+HasCome l start left fates now = (left ≡ l.left) × (fates ≡ l.fates) × (now ≡ asked start l.asked)
+
+-- a loss of power goes on from some draws to others, whatever it asked before: this is what the definition makes of its words
+-- and of what it asked
+abbrev pub GoesOn : {A : Type 0} → ((ℕ → ℕ) → List Question → Losing A) → (old : Drawn) → A → List Kept → (new : Drawn) → Type 0
+GoesOn goes old left fates new =
+    (start : Drawn) (qs : List Question) → old ≡ asked start qs → HasCome (goes (word_in start) qs) start left fates new

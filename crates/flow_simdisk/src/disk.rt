@@ -2,10 +2,11 @@
 
 ghost use Rattle.std.specs.Prelude.{◌≡◌, ◌+◌, ◌-◌, ◌*◌, ◌<◌, ◌≤◌, ◌^◌, [], IfOk, OnOk, OnErr, length, min, nat_lt, take, drop};
 ghost use Rattle.std.specs.List.{All};
+ghost use Rattle.flow_draw.specs.Words.{word_in};
 ghost use Rattle.flow_simdisk.specs.declared.TheConstants.{FILE_BYTES};
 ghost use Rattle.flow_simdisk.specs.Asks.{ReadCall, WriteCall, SyncCall, SizeCall};
 ghost use Rattle.flow_simdisk.specs.Disk.{Serves, seen_bytes, file_named, with_file, lose_next, lose_file, power_lost};
-ghost use Rattle.flow_simdisk.specs.Stored.{FitsFile, HasFiles, CanRestore, HasRisingNames, file_in, files_in, in_order_of_names, files_of, with_joined, with_synced, drawn_words, most_words, losing};
+ghost use Rattle.flow_simdisk.specs.Stored.{FitsFile, HasFiles, CanRestore, HasRisingNames, file_in, files_in, in_order_of_names, files_of, with_joined, with_synced, most_words, HasCome, GoesOn};
 
 use crate::ask::DiskReply;
 use crate::file::File;
@@ -227,10 +228,11 @@ impl Disk {
     /// drawn.
     pub fn kill(&mut self, draws: &mut Draws) -> Result<Vec<Kept>, NoMemory>
         requires { draws.old.used + most_words self.old.files < 2 ^ 63 }
-        ensures lost { IfOk result (λ fates. losing self.new.files draws.new.used fates.items
-            ≡ power_lost (drawn_words draws.old) draws.old.used self.old.files) }
+        ensures lost { let lost = power_lost (word_in draws.old) self.old.files in
+            IfOk result (λ fates. HasCome lost draws.old self.new.files fates.items draws.new) }
         ensures fails { self.new.fails ≡ self.old.fails }
-        ensures drawn { draws.new ≡ record draws.old { used = draws.new.used } }
+        ensures drawn { draws.new
+            ≡ record draws.old { used = draws.new.used; noted = draws.new.noted } }
         ensures unchanged { OnErr result (self.new ≡ self.old) }
     {
         let mut fates = Vec::new(self.alloc);
@@ -254,11 +256,12 @@ fn lose_file(
 ) -> Result<(), NoMemory>
     requires name { length name.now ≤ 65535 }
     requires room { draws.old.used + 2 * length file.now.unsynced < 2 ^ 63 }
-    ensures lost { let words = drawn_words draws.old in
-        let lost = lose_file words draws.old.used fates.old.items name.now file.now in
-        OnOk result (losing (files_of files.new.entries) draws.new.used fates.new.items
-        ≡ lose_next (files_of files.old.entries) name.now lost) }
-    ensures drawn { draws.new ≡ record draws.old { used = draws.new.used } }
+    ensures lost { OnOk result (GoesOn
+        (λ word qs. lose_next (files_of files.old.entries) name.now
+        (lose_file word qs fates.old.items name.now file.now))
+        draws.old (files_of files.new.entries) fates.new.items draws.new) }
+    ensures drawn { draws.new
+        ≡ record draws.old { used = draws.new.used; noted = draws.new.noted } }
     ensures few { draws.new.used ≤ draws.old.used + 2 * length file.now.unsynced }
     ensures there { OnOk result (HasFiles files.old.entries → HasFiles files.new.entries) }
 {

@@ -4,7 +4,7 @@ ghost use Rattle.std.specs.Prelude.{◌≡◌, ◌+◌, ◌*◌, ◌<◌, ◌≤
 ghost use Rattle.std.specs.List.{All};
 ghost use Rattle.flow_simdisk.specs.declared.TheConstants.{FILE_BYTES};
 ghost use Rattle.flow_simdisk.specs.Disk.{written, empty_file, joined, synced, seen_bytes, lose_write, lose_file};
-ghost use Rattle.flow_simdisk.specs.Stored.{FitsFile, IsThere, CanRestore, write_in, file_in, drawn_words, losing};
+ghost use Rattle.flow_simdisk.specs.Stored.{FitsFile, IsThere, CanRestore, write_in, file_in, losing, GoesOn};
 
 use crate::overlay::{put_all_over, put_over};
 use crate::state::FileState;
@@ -142,9 +142,11 @@ impl File {
     ) -> Result<Vec<u8>, NoMemory>
         requires name { length name.now ≤ 65535 }
         requires room { draws.old.used + 2 * length self.now.unsynced < 2 ^ 63 }
-        ensures lost { IfOk result (λ left. losing left.items draws.new.used fates.new.items
-            ≡ lose_file (drawn_words draws.old) draws.old.used fates.old.items name.now self.now) }
-        ensures drawn { draws.new ≡ record draws.old { used = draws.new.used } }
+        ensures lost { IfOk result (λ left. GoesOn
+            (λ word qs. lose_file word qs fates.old.items name.now self.now)
+            draws.old left.items fates.new.items draws.new) }
+        ensures drawn { draws.new
+            ≡ record draws.old { used = draws.new.used; noted = draws.new.noted } }
         ensures few { draws.new.used ≤ draws.old.used + 2 * length self.now.unsynced }
         ensures fits { IfOk result (λ left. length left.items ≤ FILE_BYTES) }
     {
@@ -180,10 +182,12 @@ fn lose_write(
     requires fits { FitsFile write.now }
     requires short { length left.old.items ≤ FILE_BYTES }
     requires room { draws.old.used + 2 < 2 ^ 63 }
-    ensures lost { let before = losing left.old.items draws.old.used fates.old.items in
-        OnOk result (losing left.new.items draws.new.used fates.new.items
-        ≡ lose_write (drawn_words draws.old) name.now before write.now) }
-    ensures drawn { draws.new ≡ record draws.old { used = draws.new.used } }
+    ensures lost { OnOk result (GoesOn
+        (λ word qs. lose_write word name.now
+        (losing left.old.items qs fates.old.items) write.now)
+        draws.old left.new.items fates.new.items draws.new) }
+    ensures drawn { draws.new
+        ≡ record draws.old { used = draws.new.used; noted = draws.new.noted } }
     ensures few { draws.new.used ≤ draws.old.used + 2 }
     ensures fits { OnOk result (length left.new.items ≤ FILE_BYTES) }
 {

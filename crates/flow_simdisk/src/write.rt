@@ -1,8 +1,9 @@
 // Writes, and what a loss of power did to them.
 
 ghost use Rattle.std.specs.Prelude.{◌≡◌, ◌+◌, ◌<◌, ◌≤◌, ◌^◌, IfOk, length};
+ghost use Rattle.flow_draw.specs.Words.{word_in, asked};
 ghost use Rattle.flow_simdisk.specs.Disk.{fate, kept_of};
-ghost use Rattle.flow_simdisk.specs.Stored.{drawn_words, HasByte};
+ghost use Rattle.flow_simdisk.specs.Stored.{HasByte};
 
 use flow_base::memory::NoMemory;
 use flow_base::text::Text;
@@ -29,16 +30,15 @@ pub struct Kept {
 pub fn draw_fate(write: &Write, draws: &mut Draws) -> u32
     requires byte { HasByte write.now }
     requires room { draws.old.used + 2 < 2 ^ 63 }
-    ensures kept { result ≡ (fate (drawn_words draws.old) draws.old.used write.now).kept }
+    ensures kept { result ≡ (fate (word_in draws.old) 0 write.now).kept }
     ensures part { result ≤ length write.now.text }
-    ensures drawn { let words = (fate (drawn_words draws.old) draws.old.used write.now).words in
-        draws.new ≡ record draws.old { used = draws.old.used + words } }
+    ensures drawn { draws.new ≡ asked draws.old (fate (word_in draws.old) 0 write.now).asked }
 {
     let size = write.text.bytes().len() as u32;
-    match draws.next() % 3 {
+    match draws.below(3) {
         0 => size,
         1 => 0,
-        _ => draws.next() % size,
+        _ => draws.below(u64::from(size)) as u32,
     }
 }
 

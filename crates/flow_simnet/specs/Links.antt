@@ -5,7 +5,8 @@ use Rattle.std.specs.List.Sorted.{IsStrictlySortedBy}
 use Rattle.std.specs.Map.{keys_of}
 use Rattle.std.specs.Ordering.{nat_cmp}
 use Rattle.std.specs.BTreeMap.{insert_entry}
-use Rattle.flow_draw.specs.Words.{Drawn, word_at}
+use Rattle.flow_draw.specs.declared.question.Question.{Question}
+use Rattle.flow_draw.specs.declared.question.Question.TheVariants.{Among, Loses}
 use Rattle.flow_base.specs.declared.ids.ProcId.{ProcId}
 use Rattle.flow_simnet.specs.declared.packet.Fate.{Fate}
 use Rattle.flow_simnet.specs.declared.packet.Fate.TheVariants.{Cut, Drawn as LostDraw, At}
@@ -36,36 +37,36 @@ cut cuts p q = slice_set cuts (link p q) true
 abbrev pub healed : List Bool → ℕ → ℕ → List Bool
 healed cuts p q = slice_set cuts (link p q) false
 
+-- how many numbers are in a range
+abbrev pub width : ℕ × ℕ → ℕ
+width range = range.1 - range.0
+
 -- what a word gives in a range: the first number of the range, and as many more as the remainder by its width says
 abbrev pub draw_in : ℕ × ℕ → ℕ → ℕ
-draw_in range word = range.0 + word % (range.1 - range.0)
+draw_in range word = range.0 + word % width range
 
 -- What becomes of a packet by the words that are drawn for it: over a cut link it is lost without a draw; else a word
 -- below the permille loses it; else the next word gives its delay.
 abbrev pub fate_by : (cut : Bool) → (loss : ℕ) → (latency : ℕ × ℕ) → (now : ℕ) → (ℕ → ℕ) → Fate
 fate_by cut loss latency now word =
     if cut then Cut
-    else if nat_lt (draw_in (0, 1000) (word 0)) loss then LostDraw
+    else if nat_lt (word 0 % 1000) loss then LostDraw
     else At (now + draw_in latency (word 1))
 
 abbrev pub fate : Links → (now from to : ℕ) → (ℕ → ℕ) → Fate
 fate net now p q word = fate_by (is_cut net.cuts p q) net.loss net.latency now word
 
--- how many words a fate takes
-abbrev pub words_of : Fate → ℕ
-words_of Cut = 0
-words_of LostDraw = 1
-words_of (At time) = 2
+-- what the words of a fate are asked for: whether the packet is lost, and if not, how late it is
+abbrev pub questions_of : (loss : ℕ) → (latency : ℕ × ℕ) → Fate → List Question
+questions_of loss latency Cut = []
+questions_of loss latency LostDraw = Loses loss ∷ []
+questions_of loss latency (At time) = Loses loss ∷ Among (width latency) ∷ []
 
 -- a packet that isn't lost is on its way
 abbrev pub put_on_way : Fate → ℕ → Letter → List (ℕ × Letter) → List (ℕ × Letter)
 put_on_way Cut number letter on_way = on_way
 put_on_way LostDraw number letter on_way = on_way
 put_on_way (At time) number letter on_way = insert_entry nat_cmp on_way number letter
-
--- the word that is drawn so many words from now
-abbrev pub word_in : Drawn → ℕ → ℕ
-word_in d k = word_at d.seed d.listed (d.used + k)
 
 -- the net after a packet of this fate was sent
 abbrev pub with_sent : Links → Fate → Letter → Links

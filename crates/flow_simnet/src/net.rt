@@ -1,11 +1,12 @@
 // The links and the packets on their way.
 
-ghost use Rattle.std.specs.Prelude.{◌≡◌, ◌+◌, ◌*◌, ◌<◌, ◌≤◌, ◌^◌, ◌-◌, [], false, replicate, OnErr, OnOk, IfOk, option_map, length};
+ghost use Rattle.std.specs.Prelude.{◌≡◌, ◌+◌, ◌*◌, ◌<◌, ◌≤◌, ◌^◌, ◌-◌, [], ◌∷◌, false, replicate, OnErr, OnOk, IfOk, option_map, length};
 ghost use Rattle.std.specs.Map.{lookup, remove_entry};
 ghost use Rattle.std.specs.Ordering.{nat_cmp};
 ghost use Rattle.std.specs.BTreeMap.{insert_entry, is_at};
-ghost use Rattle.flow_draw.specs.Words.{next_word, one_taken};
-ghost use Rattle.flow_simnet.specs.Links.{link, cut, healed, draw_in, fate, words_of, with_sent, word_in, numbered, cut_links};
+ghost use Rattle.flow_draw.specs.declared.question.Question.TheVariants.{Among};
+ghost use Rattle.flow_draw.specs.Words.{next_word, word_in, asked};
+ghost use Rattle.flow_simnet.specs.Links.{link, cut, healed, width, draw_in, fate, questions_of, with_sent, numbered, cut_links};
 ghost use Rattle.flow_simnet.specs.Links.{open_links, AreBelow, HasLinks, packets_of, all_cut, all_on_way, letter_of};
 
 use crate::packet::{Fate, Letter, NetState, Packet, Sent};
@@ -100,7 +101,7 @@ impl Net {
         ensures sent { IfOk result (λ s. self.new ≡ with_sent self.old s.fate
             (record { from = from; to = to; port = port; text = text })) }
         ensures drawn { IfOk result (λ s.
-            draws.new ≡ record draws.old { used = draws.old.used + words_of s.fate }) }
+            draws.new ≡ asked draws.old (questions_of self.old.loss self.old.latency s.fate)) }
         ensures unchanged { OnErr result (self.new ≡ self.old) }
     {
         let number = self.packets + 1;
@@ -139,12 +140,13 @@ impl Net {
         requires early { now ≤ 2 ^ 63 }
         requires room { draws.old.used + 2 < 2 ^ 63 }
         ensures fate { result ≡ fate self.now now from.0 to.0 (word_in draws.old) }
-        ensures drawn { draws.new ≡ record draws.old { used = draws.old.used + words_of result } }
+        ensures drawn { let questions = questions_of self.now.loss self.now.latency result in
+            draws.new ≡ asked draws.old questions }
     {
         if self.cuts[link(from, to)] {
             return Fate::Cut;
         }
-        if draw(draws, (0, 1000)) < u64::from(self.loss) {
+        if draws.loses(self.loss) {
             return Fate::Drawn;
         }
         Fate::At(now + draw(draws, self.latency))
@@ -282,9 +284,9 @@ fn draw(draws: &mut Draws, range: (u64, u64)) -> u64
     requires room { draws.old.used + 1 < 2 ^ 63 }
     ensures number { result ≡ draw_in range (next_word draws.old) }
     ensures below { result < range.1 }
-    ensures taken { draws.new ≡ one_taken draws.old }
+    ensures taken { draws.new ≡ asked draws.old (Among (width range) ∷ []) }
 {
-    range.0 + u64::from(draws.next()) % (range.1 - range.0)
+    range.0 + draws.below(range.1 - range.0)
 }
 
 /// The cut links, by their places.

@@ -22,7 +22,7 @@ fn first_words(alloc: Global, world: &World0, count: u64) -> Result<Vec<u32>, No
     ensures words { IfOk result (λ words. words.items ≡ first_words (seen world.now) count) }
     ensures range { IfOk result (λ words. AllByRecursion (λ n. InRange (Word n)) words.items) }
 {
-    let mut draws = Draws::new(world.seed, world.words.to_vec(alloc)?);
+    let mut draws = Draws::new(alloc, world.seed, world.words.to_vec(alloc)?);
     let mut words = Vec::new(alloc);
     for _word in 0..count {
         words.push(draws.next())?;

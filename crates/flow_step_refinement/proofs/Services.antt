@@ -97,7 +97,7 @@ module _ {A W : Type 0} (serves : Host W) (shows : A → Numbered ℕ → W → 
       where
         by_range : (fits : Bool) → DrawServed serves shows wrote fits i g lo (natural (hi -ℤ lo)) m a n b
             → Done serves shows wrote r x ls n a b (reacted p.actors
-            (if fits then (gives i.0 h (IntValue (scaled lo (natural (hi -ℤ lo)) (serves.supply w).word)) p.core, Some asks.Drew) else throws i.0 bad_argument p.core)) w
+            (if fits then (gives i.0 h (IntValue (scaled lo (natural (hi -ℤ lo)) (serves.supply w).word)) p.core, Some (asks.Drew (natural (hi -ℤ lo)))) else throws i.0 bad_argument p.core)) w
         by_range false t = is_thrown i bad_argument l t
         by_range true d =
             let v = scaled lo (natural (hi -ℤ lo)) (serves.supply w).word in
@@ -110,9 +110,9 @@ module _ {A W : Type 0} (serves : Host W) (shows : A → Numbered ℕ → W → 
             record {
               told = wrote_so s.0;
               lives = record {
-                shown = lines_after ls (serves.serve asks.Drew w).0 n q none shown;
+                shown = lines_after ls (serves.serve (asks.Drew (natural (hi -ℤ lo))) w).0 n q none shown;
                 served = none;
-                world = subst (λ ps. shows b ps (serves.serve asks.Drew w).1) (sym (push_ports i.0 (result_task i.0 h (IntValue v)) p.core)) s.1;
+                world = subst (λ ps. shows b ps (serves.serve (asks.Drew (natural (hi -ℤ lo))) w).1) (sym (push_ports i.0 (result_task i.0 h (IntValue v)) p.core)) s.1;
               };
             }
 

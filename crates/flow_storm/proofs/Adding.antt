@@ -1,9 +1,11 @@
 -- A world to which faults are added, one after another.
 use Rattle.std.proofs.Common.{◌≡◌, ℕ, zero, suc, ◌+◌, ◌*◌, ◌/◌, ◌%◌, ◌^◌, ◌<◌, ◌≤◌, Bool, true, false, nat_eq, if◌then◌else◌, ◌-◌, List, [], ◌∷◌, ◌++◌, length, sym, ap, ap₂, ◌∙◌, add-one, arith, subst}
+use Rattle.std.specs.Prelude.{replicate}
 use Rattle.std.specs.List.{AllByRecursion}
+use Rattle.flow_draw.specs.declared.question.Question.TheVariants.{Among}
 use Rattle.std.proofs.lemmas.Nat.{mod_below}
 use Rattle.std.proofs.lemmas.List.{append_assoc, append-nil, length-append}
-use Rattle.flow_draw.specs.Words.{Drawn, word_at}
+use Rattle.flow_draw.specs.Words.{Drawn, drawn_from, word_at, asked}
 use Rattle.flow_worldfile.specs.declared.directive.Order.{Order}
 use Rattle.flow_worldfile.specs.Directives.{InRange, Names}
 use Rattle.flow_worldfile.specs.Worlds.{World, IsInRange, at_line, most_orders}
@@ -22,9 +24,10 @@ pub strike_drawn : (seed processes horizon i : ℕ) (d : Drawn) (s : Strike) →
 strike_drawn seed processes horizon i d s is drawn =
     drawn ∙ ap (λ e. strike_by (λ k. word_at e.seed e.listed (e.used + k)) processes horizon) is
 
-pub five_drawn : (seed i : ℕ) (d next : Drawn) → d ≡ storm_draws seed i → next ≡ record d { used = d.used + 5 } → next ≡ storm_draws seed (i + 1)
+pub five_drawn : (seed i : ℕ) (d next : Drawn) → d ≡ storm_draws seed i → next ≡ asked d (replicate 5 (Among (2 ^ 32))) → next ≡ storm_draws seed (i + 1)
 five_drawn seed i d next is taken =
-    taken ∙ ap {A = Drawn} {B = Drawn} (λ e. record e { used = e.used + 5 }) is ∙ ap {B = Drawn} (λ n. record (storm_draws seed i) { used = n }) (omega arith)
+    let five : first_word + 5 * i + 5 ≡ first_word + 5 * (i + 1) = omega arith in
+    taken ∙ ap (λ e. asked e (replicate 5 (Among (2 ^ 32)))) is ∙ ap (drawn_from seed []) five
 
 pub struck_more : (seed horizon i : ℕ) (first now : World) (script : List (ℕ × Order)) (s : Strike)
     → now ≡ struck_by seed horizon i first → script ≡ now.script ++ orders s → s ≡ strike_at seed now.processes horizon i

@@ -1,22 +1,30 @@
 -- The five words of a fault, one after another.
-use Rattle.std.proofs.Common.{◌≡◌, ℕ, ◌+◌, ◌%◌, ◌/◌, ap, ◌∙◌, arith}
-use Rattle.flow_draw.specs.Words.{Drawn, word_at, next_word, one_taken}
+use Rattle.std.proofs.Common.{◌≡◌, ℕ, ◌+◌, ◌%◌, ◌/◌, ◌^◌, [], ◌∷◌, replicate, ap, ◌∙◌, arith}
+use Rattle.std.proofs.lemmas.List.{replicate_more, length-replicate}
+use Rattle.flow_draw.specs.declared.question.Question.TheVariants.{Among}
+use Rattle.flow_draw.specs.Words.{Drawn, word_at, next_word, asked}
+use Rattle.flow_draw.proofs.Asking.{asked_more}
 use Rattle.flow_storm.specs.declared.strike.Fault.{Fault}
 use Rattle.flow_storm.specs.declared.strike.Strike.{Strike}
 use Rattle.flow_storm.specs.Storms.{fault_of, other_process, strike_by}
 
 -- the draws when so many more words were taken
 abbrev pub later : Drawn → ℕ → Drawn
-later d k = record d { used = d.used + k }
+later d k = asked d (replicate k (Among (2 ^ 32)))
 
 pub none_taken : (d : Drawn) → d ≡ later d 0
 none_taken d = ap (λ n. record d { used = n }) (omega arith)
 
-pub more_taken : (d e next : Drawn) (k : ℕ) → e ≡ later d k → next ≡ one_taken e → next ≡ later d (k + 1)
-more_taken d e next k is taken = taken ∙ ap one_taken is ∙ ap (λ n. record d { used = n }) (omega arith)
+pub more_taken : (d e next : Drawn) (k : ℕ) → e ≡ later d k → next ≡ asked e (Among (2 ^ 32) ∷ []) → next ≡ later d (k + 1)
+more_taken d e next k is taken =
+    taken
+    ∙ ap (λ f. asked f (Among (2 ^ 32) ∷ [])) is
+    ∙ asked_more d (replicate k (Among (2 ^ 32))) (Among (2 ^ 32) ∷ [])
+    ∙ ap (asked d) (replicate_more k (Among (2 ^ 32)))
 
 pub word_later : (d e : Drawn) (word k : ℕ) → e ≡ later d k → word ≡ next_word e → word ≡ word_at d.seed d.listed (d.used + k)
-word_later d e word k is taken = taken ∙ ap next_word is
+word_later d e word k is taken =
+    taken ∙ ap next_word is ∙ ap (λ n. word_at d.seed d.listed (d.used + n)) (length-replicate k (Among (2 ^ 32)))
 
 -- a fault of the numbers that were read of words
 made : (kind process further time length processes horizon : ℕ) → Strike

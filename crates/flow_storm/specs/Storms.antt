@@ -1,6 +1,6 @@
 -- Faults that are drawn from a seed, behind the script of a world.
 use Rattle.std.specs.Prelude.{ℕ, zero, suc, ◌+◌, ◌*◌, ◌-◌, ◌/◌, ◌%◌, ◌^◌, List, [], ◌∷◌, ◌++◌, min, nat_lt, nat_eq, if◌then◌else◌}
-use Rattle.flow_draw.specs.Words.{Drawn, word_at}
+use Rattle.flow_draw.specs.Words.{Drawn, drawn_from, word_at}
 use Rattle.flow_worldfile.specs.declared.directive.Order.{Order}
 use Rattle.flow_worldfile.specs.declared.directive.Order.TheVariants as order
 use Rattle.flow_worldfile.specs.Worlds.{World}
@@ -69,4 +69,4 @@ storm_of seed faults horizon w = record (struck_by seed horizon faults w) { seed
 
 -- the draws of a storm after so many faults
 abbrev pub storm_draws : (seed faults : ℕ) → Drawn
-storm_draws seed faults = record { seed = seed; listed = []; used = first_word + 5 * faults }
+storm_draws seed faults = drawn_from seed [] (first_word + 5 * faults)

@@ -92,7 +92,7 @@ pub fn add_storm(alloc: Global, world: &mut World0, seed: u64, storm: Storm) -> 
         ≡ storm_of seed storm.faults storm.horizon (seen world.old)) }
     ensures range { OnOk result (IsInRange (seen world.new)) }
 {
-    let mut draws = Draws::at(seed, Vec::new(alloc), FIRST_WORD);
+    let mut draws = Draws::at(alloc, seed, Vec::new(alloc), FIRST_WORD);
     for _fault in 0..storm.faults {
         let strike = Strike::drawn(&mut draws, world.processes, storm.horizon);
         push_orders(&mut world.script, strike)?;

@@ -1,7 +1,8 @@
 // Faults, as words tell them.
 
-ghost use Rattle.std.specs.Prelude.{◌≡◌, ◌+◌, ◌^◌, ◌<◌, ◌≤◌};
-ghost use Rattle.flow_draw.specs.Words.{word_at};
+ghost use Rattle.std.specs.Prelude.{◌≡◌, ◌+◌, ◌^◌, ◌<◌, ◌≤◌, replicate};
+ghost use Rattle.flow_draw.specs.declared.question.Question.TheVariants.{Among};
+ghost use Rattle.flow_draw.specs.Words.{word_at, asked};
 ghost use Rattle.flow_storm.specs.Storms.{fault_of, other_process, strike_by};
 
 use flow_base::ids::ProcId;
@@ -72,7 +73,7 @@ impl Strike {
         requires room { draws.old.used + 5 < 2 ^ 63 }
         ensures strike { result ≡ strike_by
             (λ k. word_at draws.old.seed draws.old.listed (draws.old.used + k)) processes horizon }
-        ensures taken { draws.new ≡ record draws.old { used = draws.old.used + 5 } }
+        ensures taken { draws.new ≡ asked draws.old (replicate 5 (Among (2 ^ 32))) }
     {
         let kind = draws.next() % 8;
         let process = (draws.next() % u32::from(processes)) as u8;

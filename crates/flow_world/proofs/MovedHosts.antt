@@ -44,7 +44,7 @@ module _ {A B W : Type 0} (f : A → B) (serves : Host W) (shows : B → Numbere
 
   draw_by : (fits : Bool) (i : ActorId) (g : Goal) (lo : ℤ) (width : ℕ) (p q : Process) (a b : A)
       → DrawServed serves shown written fits i g lo width p a q b → DrawServed serves shows wrote fits i g lo width p (f a) q (f b)
-  draw_by true i g lo width p q a b t = record { number = t.number; drawn = (serves_by Drew a b t.drawn.0, t.drawn.1); given = t.given }
+  draw_by true i g lo width p q a b t = record { number = t.number; drawn = (serves_by (Drew width) a b t.drawn.0, t.drawn.1); given = t.given }
   draw_by false i g lo width p q a b t = thrown_by i _ p q a b t
 
   delay_by : (fits : Bool) (i : ActorId) (g : Goal) (time : ℕ) (p q : Process) (a b : A)
@@ -129,9 +129,9 @@ module _ {A B W : Type 0} (f : A → B) (serves : Host W) (shows : B → Numbere
     unwritten_by a b (inl same) = inl (ap f same)
     unwritten_by a b (inr t) = inr (in_part_as_well a b [] t)
 
-    draw_broke_by : (a b : A) → DrawBroke serves shown written written_in_part a b → DrawBroke serves shows wrote broke (f a) (f b)
-    draw_broke_by a b (inl t) = inl (unwritten_by a b t)
-    draw_broke_by a b (inr t) = inr (serves_by Drew a b t)
+    draw_broke_by : (width : ℕ) (a b : A) → DrawBroke serves shown written written_in_part width a b → DrawBroke serves shows wrote broke width (f a) (f b)
+    draw_broke_by width a b (inl t) = inl (unwritten_by a b t)
+    draw_broke_by width a b (inr t) = inr (serves_by (Drew width) a b t)
 
     send_broke_by : (fits : Bool) (number port : ℕ) (text : List ℕ) (a b : A)
         → SendBroke serves shown written written_in_part fits number port text a b → SendBroke serves shows wrote broke fits number port text (f a) (f b)
@@ -142,7 +142,7 @@ module _ {A B W : Type 0} (f : A → B) (serves : Host W) (shows : B → Numbere
     serving_broke_by : (n : ℕ) (c : Option Call) (a b : A) → ServingBrokeIf serves shown written written_in_part n c a b → ServingBrokeIf serves shows wrote broke n c (f a) (f b)
     serving_broke_by n None a b t = absurd t
     serving_broke_by n (Some (call.Line l)) a b t = in_part_as_well a b (l ∷ []) t
-    serving_broke_by n (Some (call.Draw i g lo hi)) a b t = draw_broke_by a b t
+    serving_broke_by n (Some (call.Draw i g lo hi)) a b t = draw_broke_by _ a b t
     serving_broke_by n (Some (call.Delay i g ticks)) a b t = unwritten_by a b t
     serving_broke_by n (Some (call.Listen i g port)) a b t = unwritten_by a b t
     serving_broke_by n (Some (call.Disk i g request)) a b t = unwritten_by a b t

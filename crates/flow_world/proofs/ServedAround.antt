@@ -13,6 +13,7 @@ use Rattle.flow_trace.specs.declared.line.Line.{Line}
 use Rattle.flow_trace.specs.declared.line.Line.TheVariants.{Send, LostCut, LostDraw}
 use Rattle.flow_simnet.specs.declared.packet.Fate.{Fate}
 use Rattle.flow_simnet.specs.declared.packet.Fate.TheVariants.{Cut, Drawn, At}
+use Rattle.flow_simnet.specs.Links as table
 use Rattle.flow_simdisk.specs.declared.ask.DiskAsk.{DiskAsk}
 use Rattle.flow_machine.specs.Requests.{call_of}
 use Rattle.flow_numbered.specs.Numbered.{Numbered, thing, added}
@@ -58,11 +59,11 @@ module _ {A : Type 0} (puts : A → Line → Result (Unit {0}) OutFault → A �
   -- a drawn word
   pub word_served :
       (r : Result ℤ NoMemory) (o : A) (n : Surroundings) (lo : ℤ) (width : ℕ)
-      → IfOk r (λ x. x ≡ scaled lo width (next_word m.draws)) → OnOk r (n ≡ with_word m)
-      → IfOk r (λ x. ServedTo Drew o o n × ((ps : Numbered ℕ) (w : Outside) → SurroundingsRepresent me p m ps w → x ≡ scaled lo width (supply w).word))
+      → IfOk r (λ x. x ≡ scaled lo width (next_word m.draws)) → OnOk r (n ≡ with_word width m)
+      → IfOk r (λ x. ServedTo (Drew width) o o n × ((ps : Numbered ℕ) (w : Outside) → SurroundingsRepresent me p m ps w → x ≡ scaled lo width (supply w).word))
   word_served (Ok x) o n lo width d e = (
-    λ ps w h. (no_line, subst (λ z. SurroundingsRepresent me p z ps (serve Drew w).1) (sym e) (record { outside = (word_drawn m w h.outside).1; active = h.active; ports = h.ports })),
-    λ ps w h. d ∙ ap (scaled lo width) (word_drawn m w h.outside).0,
+    λ ps w h. (no_line, subst (λ z. SurroundingsRepresent me p z ps (serve (Drew width) w).1) (sym e) (record { outside = (word_drawn m w width h.outside).1; active = h.active; ports = h.ports })),
+    λ ps w h. d ∙ ap (scaled lo width) (word_drawn m w width h.outside).0,
   )
   word_served (Err x) o n lo width d e = tt
 
@@ -80,11 +81,11 @@ module _ {A : Type 0} (puts : A → Line → Result (Unit {0}) OutFault → A �
   -- a request to the disk
   pub disk_served :
       (r : Result (Unit {0}) NoMemory) (o : A) (n between : Surroundings) (k : CellId) (a : DiskAsk) (delay : ℕ)
-      → delay ≡ next_delay m → between ≡ with_word m → OnOk r (n ≡ with_pending between (between.time + delay) (kept.Answers me k a))
+      → delay ≡ next_delay m → between ≡ with_word (table.width m.disk_delay) m → OnOk r (n ≡ with_pending between (between.time + delay) (kept.Answers me k a))
       → OnOk r (ServedTo (Disks k.0 (call_of a)) o o n)
   disk_served (Ok done) o n between k a delay d b e = λ ps w h.
       let same : n ≡ disk_asked m me k a =
-      e ∙ ap (λ z. with_pending z (z.time + delay) (kept.Answers me k a)) b ∙ ap (λ t. with_pending (with_word m) (m.time + t) (kept.Answers me k a)) d in (
+      e ∙ ap (λ z. with_pending z (z.time + delay) (kept.Answers me k a)) b ∙ ap (λ t. with_pending (with_word (table.width m.disk_delay) m) (m.time + t) (kept.Answers me k a)) d in (
         no_line,
         subst (λ z. SurroundingsRepresent me p z ps (serve (Disks k.0 (call_of a)) w).1) (sym same)
             (record { outside = disk_is_asked m w me k a h.outside h.active; active = h.active; ports = h.ports }),
@@ -110,7 +111,7 @@ module _ {A : Type 0} (puts : A → Line → Result (Unit {0}) OutFault → A �
     packet_shown ps w h =
         let s = packet_is_sent m w me q port text h.outside h.active (subst (λ n. me.0 < n) h.outside.processes mine) (subst (λ n. q.0 < n) h.outside.processes theirs) in
         let v : Outside = record w { sent = suc w.sent } in
-        (s.0, record { outside = s.1; active = h.active ∙ active_sent (meaning.fate_in v q.0) v v.sent q.0 port text; ports = h.ports })
+        (s.0, record { outside = s.1; active = h.active ∙ active_sent (meaning.fate_in v q.0) (meaning.drawn_by (meaning.fate_in v q.0) v) v.sent q.0 port text; ports = h.ports })
 
     packet_served :
         (o o1 o2 : A) (n : Surroundings) (f : Fate) (number : ℕ) → number ≡ m.net.sent + 1 → f ≡ fate_of m me q

@@ -1,19 +1,18 @@
 -- What is outside of the processes of a world, as contracts see it, and what the calls of the world make of it.
-use Rattle.std.specs.Prelude.{◌≡◌, ℕ, ◌+◌, Bool, false, not, List, [], ◌∷◌, map, filter, nat_eq, slice_get, slice_set}
+use Rattle.std.specs.Prelude.{◌≡◌, ℕ, Bool, false, not, List, [], ◌∷◌, filter, nat_eq, slice_get, slice_set}
 use Rattle.std.specs.declared.option.Option.{Option}
 use Rattle.std.specs.declared.option.Option.TheVariants.{None, Some}
 use Rattle.flow_base.specs.declared.ids.ProcId.{ProcId}
-use Rattle.flow_draw.specs.Words.{Drawn, next_word, one_taken}
-use Rattle.std.specs.List.{fold}
-use Rattle.flow_timers.specs.Pending.{Pending, Queue, with_event, without_event}
+use Rattle.flow_draw.specs.declared.question.Question.TheVariants.{Among}
+use Rattle.flow_draw.specs.Words.{Drawn, next_word, word_in, asked}
+use Rattle.flow_timers.specs.Pending.{Pending, Queue, with_event}
 use Rattle.flow_simnet.specs.declared.packet.Fate.{Fate}
 use Rattle.flow_simnet.specs.declared.packet.Letter.{Letter}
-use Rattle.flow_simnet.specs.Links.{Links, draw_in, fate, word_in, words_of, with_sent}
+use Rattle.flow_simnet.specs.Links.{Links, draw_in, fate, questions_of, with_sent}
 use Rattle.flow_simdisk.specs.Asks.{DiskCall}
 use Rattle.flow_simdisk.specs.declared.ask.DiskReply.{DiskReply}
 use Rattle.flow_simdisk.specs.declared.write.Kept.{Kept}
-use Rattle.flow_simdisk.specs.Disk.{Disk, File, served, power_lost}
-use Rattle.flow_simdisk.specs.Stored.{drawn_words, losing}
+use Rattle.flow_simdisk.specs.Disk.{Disk, File, Losing, served, power_lost}
 use Rattle.flow_world.specs.declared.outside.Outside.{Outside}
 use Rattle.flow_world.specs.declared.outside.What.{What}
 use Rattle.flow_world.specs.declared.outside.What.TheVariants.{Boots, Rings, Arrives, Answers}
@@ -45,9 +44,9 @@ FirstTaken [] (Some x) before after = ⊥
 FirstTaken (e ∷ es) None before after = ⊥
 FirstTaken (e ∷ es) (Some x) before after = (x ≡ e.what) × (after ≡ with_events es before)
 
--- one more word is drawn
-abbrev pub with_word : Surroundings → Surroundings
-with_word w = record w { draws = one_taken w.draws }
+-- one more word is drawn, for one of so many numbers
+abbrev pub with_word : (width : ℕ) → Surroundings → Surroundings
+with_word n w = record w { draws = asked w.draws (Among n ∷ []) }
 
 -- the delay of a disk that the next word gives
 abbrev pub next_delay : Surroundings → ℕ
@@ -61,7 +60,7 @@ abbrev pub letter : (from to : ProcId) → (port : ℕ) → List ℕ → Letter
 letter p q port text = record { from = p; to = q; port = port; text = text }
 
 abbrev pub sent_by : Fate → Letter → Surroundings → Surroundings
-sent_by f l w = record w { net = with_sent w.net f l; draws = record w.draws { used = w.draws.used + words_of f } }
+sent_by f l w = record w { net = with_sent w.net f l; draws = asked w.draws (questions_of w.net.loss w.net.latency f) }
 
 -- The disk of a process serves a request.
 abbrev pub with_disk : (process : ℕ) → Disk → Surroundings → Surroundings
@@ -74,14 +73,18 @@ pub record DiskServes (p : ProcId) (request : DiskCall ℕ) (before after : Surr
   pub left : after ≡ with_disk p.0 (served request disk.fails disk.files).0 before
 
 -- The disk of a process loses what it may by words that are drawn for that.
+abbrev pub loss_on : Disk → Surroundings → Losing (List (List ℕ × File))
+loss_on d w = power_lost (word_in w.draws) d.files
+
+abbrev pub with_loss : (process : ℕ) → Disk → Surroundings → Surroundings
+with_loss p d w =
+    record (with_disk p (record { fails = d.fails; files = (loss_on d w).left }) w) { draws = asked w.draws (loss_on d w).asked }
+
 pub record DiskLoses (p : ProcId) (before after : Surroundings) (fates : List Kept) : Type 0 where
   pub disk : Disk
   pub there : slice_get before.disks p.0 ≡ Some disk
-  pub kept : List (List ℕ × File)
-  pub lost : losing kept after.draws.used fates ≡ power_lost (drawn_words before.draws) before.draws.used disk.files
-  pub left : after
-      ≡ record (with_disk p.0 (record { fails = disk.fails; files = kept }) before)
-      { draws = record before.draws { used = after.draws.used } }
+  pub lost : fates ≡ (loss_on disk before).fates
+  pub left : after ≡ with_loss p.0 disk before
 
 -- a timer or a disk request of this process
 abbrev pub is_request_of : ProcId → What → Bool
@@ -96,13 +99,3 @@ requests_gone p es = filter (λ e. not (is_request_of p e.what)) es
 
 abbrev pub without_requests : ProcId → Surroundings → Surroundings
 without_requests p w = record w { timers = record w.timers { pending = requests_gone p w.timers.pending } }
-
--- the times and numbers of those that are requests of a process, and pending events without those of these times and numbers
-abbrev pub request_keys : ProcId → List (Pending What) → List (ℕ × ℕ)
-request_keys p es = map (λ e. (e.time, e.number)) (filter (λ e. is_request_of p e.what) es)
-
-abbrev pub without_events : List (ℕ × ℕ) → List (Pending What) → List (Pending What)
-without_events ks es = fold (λ rest k. without_event k.0 k.1 rest) es ks
-
-abbrev pub without_keys : List (ℕ × ℕ) → Surroundings → Surroundings
-without_keys ks w = record w { timers = record w.timers { pending = without_events ks w.timers.pending } }

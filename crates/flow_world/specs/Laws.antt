@@ -23,7 +23,9 @@ use Rattle.flow_world.specs.Representing.{OutsideRepresents}
 
 -- A drawn word is the next one, and is taken.
 abbrev pub WordDrawn : Surroundings → Outside → Type 0
-WordDrawn m w = OutsideRepresents m w → (next_word m.draws ≡ word_in w 0) × OutsideRepresents (does.with_word m) (serve Drew w).1
+WordDrawn m w =
+    (width : ℕ) → OutsideRepresents m w
+    → (next_word m.draws ≡ word_in w 0) × OutsideRepresents (does.with_word width m) (serve (Drew width) w).1
 
 -- A timer is asked for.
 abbrev pub TimerAsked : Surroundings → Outside → Type 0
@@ -33,7 +35,8 @@ TimerAsked m w =
 
 -- The disk of the process is asked, after a delay by the next word.
 abbrev pub disk_asked : Surroundings → ProcId → CellId → DiskAsk → Surroundings
-disk_asked m p k a = does.with_pending (does.with_word m) (m.time + does.next_delay m) (kept_what.Answers p k a)
+disk_asked m p k a =
+    does.with_pending (does.with_word (table.width m.disk_delay) m) (m.time + does.next_delay m) (kept_what.Answers p k a)
 
 abbrev pub DiskAsked : Surroundings → Outside → Type 0
 DiskAsked m w =

@@ -1,5 +1,5 @@
 -- Which world of the definitions the things outside of the processes show.
-use Rattle.std.specs.Prelude.{◌≡◌, ℕ, ◌+◌, ◌<◌, ◌≤◌, nat_eq, List, [], ◌∷◌, length, if◌then◌else◌}
+use Rattle.std.specs.Prelude.{◌≡◌, ℕ, ◌+◌, ◌<◌, ◌≤◌, nat_eq, List, [], ◌∷◌, length, take, if◌then◌else◌}
 use Rattle.std.specs.Map.{lookup}
 use Rattle.std.specs.Ordering.{nat_cmp}
 use Rattle.std.specs.BTreeMap.{is_at}
@@ -66,8 +66,8 @@ NumbersOnce made es = (n : ℕ) → (having n es ≤ 1) × (made < n → having 
 abbrev pub CutsRepresent : (processes : ℕ) → table.Links → Outside → Type 0
 CutsRepresent n net w = (p q : ℕ) → p < n → q < n → table.is_cut net.cuts p q ≡ is_cut w.cuts p q
 
--- All that is outside of the processes but the script: what the world's file fixes, the time, what was counted, the pending
--- events in the order in which they come, the links that are cut, and the disks.
+-- All that is outside of the processes but the script: what the world's file fixes, the time, what was counted, what the first
+-- words were asked for, the pending events in the order in which they come, the links that are cut, and the disks.
 pub record OutsideRepresents (m : Surroundings) (w : Outside) : Type 0 where
   pub seed : m.draws.seed ≡ w.file.seed
   pub words : m.draws.listed ≡ w.file.words
@@ -77,7 +77,8 @@ pub record OutsideRepresents (m : Surroundings) (w : Outside) : Type 0 where
   pub diskdelay : m.disk_delay ≡ w.file.diskdelay
   pub time : m.time ≡ w.time
   pub sent : m.net.sent ≡ w.sent
-  pub drawn : m.draws.used ≡ w.drawn
+  pub drawn : m.draws.used ≡ length w.asked
+  pub noted : m.draws.noted ≡ take m.draws.room w.asked
   pub made : m.timers.made ≡ w.events.made
   pub events : EventsRepresent m.net.on_way m.timers.pending w.events.pending
   pub packets : PacketsOnce m.net.sent m.timers.pending

@@ -9,6 +9,7 @@ use Rattle.flow_worldfile.specs.Worlds.{seen}
 use Rattle.flow_heapstate.specs.declared.state.HeapState.{HeapState}
 use Rattle.flow_heapstate.specs.State.{parts_kept}
 use Rattle.flow_heapstate.specs.Restoring.{restored}
+use Rattle.flow_draw.specs.Words.{drawn_from}
 use Rattle.flow_timers.specs.Pending.{Pending, in_order}
 use Rattle.flow_simnet.specs.declared.packet.Packet.{Packet}
 use Rattle.flow_simnet.specs.Links.{open_links, all_cut, all_on_way}
@@ -57,7 +58,7 @@ outside_made s = record {
     on_way = all_on_way [] (flat_map (λ e. packets_in e.what) s.pending);
   };
   disks = map (λ p. disk_made p.disk) s.processes;
-  draws = record { seed = s.file.seed; listed = s.file.words; used = s.words };
+  draws = drawn_from s.file.seed s.file.words s.words;
   disk_delay = s.file.diskdelay;
 }
 

@@ -10,6 +10,7 @@ use Rattle.flow_class.specs.declared.class.RawClasses.{RawClasses}
 use Rattle.flow_class.specs.View.{raw_of}
 use Rattle.flow_code.specs.Coded.{IsCoded}
 use Rattle.flow_code.specs.declared.program.Code.{Code}
+use Rattle.flow_draw.specs.Words.{drawn_from}
 use Rattle.flow_timers.specs.Pending.{Pending, Queue}
 use Rattle.flow_simnet.specs.Links.{open_links}
 use Rattle.flow_steps.specs.Doing.{never_ran}
@@ -41,13 +42,14 @@ boot_of p = record { time = 0; number = suc p; what = Boots (record { 0 = p }) }
 abbrev pub boots : (processes : ℕ) → Queue What
 boots n = record { made = n; pending = map boot_of (range_with_len 0 n) }
 
-abbrev pub outside_at_start : World0 → Surroundings
-outside_at_start w = record {
+-- what is outside then, with room for so many notes of what words were asked for
+abbrev pub outside_at_start : (room : ℕ) → World0 → Surroundings
+outside_at_start room w = record {
   time = 0;
   timers = boots w.processes;
   net = open_links w.processes w.latency w.loss;
   disks = replicate w.processes (record { fails = 0; files = [] });
-  draws = record { seed = w.seed; listed = w.words.items; used = 0 };
+  draws = record (drawn_from w.seed w.words.items 0) { room = room };
   disk_delay = w.diskdelay;
 }
 
@@ -62,12 +64,12 @@ pub record IsCodeOf (classes : RawClasses) (code : Code) : Type 0 where
   pub program : code.program ≡ classes
   pub coded : IsCoded (raw_of classes) code.fields code.classes.items code.main
 
--- the world that a file describes, with these classes and their code, before its first event
+-- the world that a file describes, with these classes and their code, before its first event, whatever its room for notes
 pub record Starts (classes : RawClasses) (from : World0) (w : Seen) : Type 0 where
   pub code : IsCodeOf classes w.code
   pub count : length w.places ≡ from.processes
   pub places : AreFresh from.processes 0 w.places
-  pub outside : w.outside ≡ outside_at_start from
+  pub outside : w.outside ≡ outside_at_start w.outside.draws.room from
   pub script : ScriptInOrder from.script.items w.script
   pub ran : w.ran ≡ 0
   pub bound : w.bound ≡ from.events

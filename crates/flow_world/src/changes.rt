@@ -1,12 +1,13 @@
 // What the calls of a world make of what is outside of its processes.
 
-ghost use Rattle.std.specs.Prelude.{◌≡◌, ℕ, ◌+◌, ◌<◌, ◌≤◌, ◌^◌, pos, ◌+ℤ◌, ◌≤ℤ◌, ◌<ℤ◌, None, slice_get, IfOk, OnOk, IsErrOf};
+ghost use Rattle.std.specs.Prelude.{◌≡◌, ℕ, ◌+◌, ◌<◌, ◌≤◌, ◌^◌, pos, ◌+ℤ◌, ◌≤ℤ◌, ◌<ℤ◌, None, not, slice_get, IfOk, OnOk, IsErrOf};
 ghost use Rattle.flow_draw.specs.Words.{next_word, scaled};
+ghost use Rattle.flow_simnet.specs.Links as table;
 ghost use Rattle.flow_machine.specs.Requests.{call_of};
 ghost use Rattle.flow_machine.specs.declared.host.RunFault.TheVariants.{Failed, Stuck};
 ghost use Rattle.flow_world.specs.Changes.{seen, with_pending, with_word, next_delay, fate_of, letter};
 ghost use Rattle.flow_world.specs.Changes.{sent_by, DiskServes, DiskLoses, is_request_of, FirstTaken};
-ghost use Rattle.flow_world.specs.Changes.{request_keys, without_keys, without_requests};
+ghost use Rattle.flow_world.specs.Changes.{without_requests};
 ghost use Rattle.flow_world.specs.Representing.{NumbersOnce};
 
 use crate::asked::Asked;
@@ -17,6 +18,7 @@ use flow_base::text::Text;
 use flow_machine::host::RunFault;
 use flow_simdisk::{DiskAsk, DiskReply, Kept};
 use flow_simnet::Fate;
+use flow_timers::Keeps;
 
 /// The last number that is given.
 const LAST_NUMBER: u64 = (1 << 63) - 1;
@@ -51,7 +53,7 @@ impl Outside {
         ensures from { IfOk result (λ n. lo ≤ℤ n) }
         ensures below { IfOk result (λ n. n <ℤ (lo +ℤ pos width)) }
         ensures number { IfOk result (λ n. n ≡ scaled lo width (next_word self.old.draws)) }
-        ensures drawn { OnOk result (seen self.new ≡ with_word (seen self.old)) }
+        ensures drawn { OnOk result (seen self.new ≡ with_word width (seen self.old)) }
     {
         if self.draws.used() >= LAST_NUMBER - 1 {
             return Err(NoMemory);
@@ -64,14 +66,14 @@ impl Outside {
         ensures net { self.new.net ≡ self.old.net }
         ensures short { IfOk result (λ n. n < 1000000000) }
         ensures delay { IfOk result (λ n. n ≡ next_delay (seen self.old)) }
-        ensures drawn { OnOk result (seen self.new ≡ with_word (seen self.old)) }
+        ensures drawn { let width = table.width self.old.disk_delay in
+            OnOk result (seen self.new ≡ with_word width (seen self.old)) }
     {
         if self.draws.used() >= LAST_NUMBER - 1 {
             return Err(NoMemory);
         }
         let (from, end) = self.disk_delay;
-        let word = u64::from(self.draws.next());
-        Ok(from + word % (end - from))
+        Ok(from + self.draws.below(end - from))
     }
 
     /// The number of the packet that is sent next. Want of memory where no more numbers are given.
@@ -147,36 +149,25 @@ impl Outside {
         Ok(disk.kill(&mut self.draws)?)
     }
 
-    // The times and numbers of the timers and disk requests of a process.
-    fn requests_of(&self, p: ProcId) -> Result<Vec<(u64, u64)>, NoMemory>
-        ensures { IfOk result (λ keys. keys.items ≡ request_keys p self.now.timers.pending) }
-    {
-        let mut keys = Vec::new(self.alloc);
-        for (time, number, what) in self.timers.entries()? {
-            if what.is_request_of(p) {
-                keys.push((time, number))?;
-            }
-        }
-        Ok(keys)
-    }
-
-    // The events of these times and numbers are gone.
-    fn drop_events(&mut self, keys: Vec<(u64, u64)>)
-        ensures { seen self.new ≡ without_keys keys.items (seen self.old) }
-    {
-        for (time, number) in keys {
-            self.timers.remove(time, number);
-        }
-    }
-
     /// The timers and disk requests of a process are gone.
     pub fn forget(&mut self, p: ProcId) -> Result<(), NoMemory>
         ensures { OnOk result ((made : ℕ) → NumbersOnce made (seen self.old).timers.pending
             → seen self.new ≡ without_requests p (seen self.old)) }
     {
-        let keys = self.requests_of(p)?;
-        self.drop_events(keys);
+        self.timers.retain(&OfOthers(p));
         Ok(())
+    }
+}
+
+/// Of the pending events those stay that aren't timers or disk requests of this process.
+#[derive(Drop)]
+struct OfOthers(ProcId);
+
+impl Keeps<What> for OfOthers {
+    ghost keeps = { λ o what. not (is_request_of o.0 what) };
+
+    fn keeps(&self, what: &What) -> bool {
+        !what.is_request_of(self.0)
     }
 }
 

@@ -158,7 +158,7 @@ pub fn world_made(
         timers,
         net,
         disks,
-        draws: Draws::at(world0.seed, listed, words),
+        draws: Draws::at(alloc, world0.seed, listed, words),
         disk_delay: world0.diskdelay,
     };
     Ok((world0, places, outside, script))

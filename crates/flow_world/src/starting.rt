@@ -77,16 +77,23 @@ fn first_parts(
     Ok((timers, disks, places))
 }
 
-/// What stands in the world of a file before its first event: its processes, what is outside of them, and its script.
-pub fn first_state(alloc: Global, file: &World0) -> Result<(Vec<Place>, Outside, Script), NoMemory>
+/// What stands in the world of a file before its first event, with room for so many notes: its processes, what is outside of
+/// them, and its script.
+pub fn first_state(
+    alloc: Global,
+    file: &World0,
+    room: usize,
+) -> Result<(Vec<Place>, Outside, Script), NoMemory>
     requires { IsInRange (file_seen file.now) }
     ensures count { IfOk result (λ r. length r.0.items ≡ file.now.processes) }
     ensures places { IfOk result (λ r. AreFresh file.now.processes 0 r.0.items) }
-    ensures outside { IfOk result (λ r. seen r.1 ≡ outside_at_start file.now) }
+    ensures outside { IfOk result (λ r. seen r.1 ≡ outside_at_start room file.now) }
+    ensures room { IfOk result (λ r. (seen r.1).draws.room ≡ room) }
     ensures script { IfOk result (λ r. ScriptInOrder file.now.script.items r.2) }
 {
     let script = Script::new(Vec::from_slice(alloc, &file.script)?)?;
     let words = Vec::from_slice(alloc, &file.words)?;
+    let draws = Draws::noting(alloc, file.seed, words, room)?;
     let net = Net::new(alloc, file.processes, file.latency, file.loss)?;
     let (timers, disks, places) = first_parts(alloc, file.processes)?;
     let outside = Outside {
@@ -95,7 +102,7 @@ pub fn first_state(alloc: Global, file: &World0) -> Result<(Vec<Place>, Outside,
         timers,
         net,
         disks,
-        draws: Draws::new(file.seed, words),
+        draws,
         disk_delay: file.diskdelay,
     };
     Ok((places, outside, script))

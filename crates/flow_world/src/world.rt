@@ -41,6 +41,7 @@ use crate::teller::{Teller, unless_failed};
 use flow_base::ids::{CellId, ProcId};
 use flow_base::memory::NoMemory;
 use flow_code::program::Code;
+use flow_draw::question::Question;
 use flow_heapstate::state::ActorState;
 use flow_machine::host::{Burst, RunFault};
 use flow_machine::views::{CallbackView, FrameView};
@@ -78,16 +79,33 @@ fn may_run(ran: u32, bound: u32) -> bool
 }
 
 impl World {
-    /// A world before its first event: each process is down, and a boot of each is pending at time 0.
+    /// A world before its first event: each process is down, and a boot of each is pending at time 0. It has no room for notes.
     pub fn start(alloc: Global, classes: ClassProgram, world: World0) -> Result<World, NoMemory>
         requires { IsInRange (seen world) }
         ensures starts { IfOk result (λ w. Starts classes world (world_seen w)) }
+        ensures room { IfOk result (λ w. (world_seen w).outside.draws.room ≡ 0) }
+        ensures ran { IfOk result (λ w. w.ran ≡ 0) }
+        ensures ended { IfOk result (λ w. w.ended ≡ false) }
+    {
+        World::noting(alloc, classes, world, 0)
+    }
+
+    /// The same, with room for so many notes of what drawn words are asked for.
+    pub fn noting(
+        alloc: Global,
+        classes: ClassProgram,
+        world: World0,
+        room: usize,
+    ) -> Result<World, NoMemory>
+        requires { IsInRange (seen world) }
+        ensures starts { IfOk result (λ w. Starts classes world (world_seen w)) }
+        ensures room { IfOk result (λ w. (world_seen w).outside.draws.room ≡ room) }
         ensures ran { IfOk result (λ w. w.ran ≡ 0) }
         ensures ended { IfOk result (λ w. w.ended ≡ false) }
     {
         // Each way out drops what was made before it, so that the parts come together and last.
         let code = Code::new(alloc, classes)?;
-        let (places, outside, script) = first_state(alloc, &world)?;
+        let (places, outside, script) = first_state(alloc, &world, room)?;
         Ok(World {
             alloc,
             code,
@@ -144,16 +162,19 @@ impl World {
         )
     }
 
-    /// The same classes in another world, before its first event. Their names aren't resolved again. Unchanged on an error.
+    /// The same classes in another world, before its first event, with the same room for notes. Their names aren't resolved
+    /// again. Unchanged on an error.
     pub fn start_again(&mut self, file: World0) -> Result<(), NoMemory>
         requires { IsInRange (seen file) }
         ensures starts { OnOk result ((c : RawClasses) → IsCodeOf c (world_seen self.old).code
             → Starts c file (world_seen self.new)) }
+        ensures room { OnOk result ((world_seen self.new).outside.draws.room
+            ≡ (world_seen self.old).outside.draws.room) }
         ensures code { self.new.code ≡ self.old.code }
         ensures ended { OnOk result (self.new.ended ≡ false) }
         ensures unchanged { OnErr result (world_seen self.new ≡ world_seen self.old) }
     {
-        let (places, outside, script) = first_state(self.alloc, &file)?;
+        let (places, outside, script) = first_state(self.alloc, &file, self.outside.draws.room())?;
         self.places = places;
         self.outside = outside;
         self.script = script;
@@ -175,6 +196,13 @@ impl World {
         ensures { result ≡ (self.now.ran, self.now.outside.time) }
     {
         (self.ran, self.outside.time)
+    }
+
+    /// What the first drawn words were asked for, as many as it has room for.
+    pub fn noted(&self) -> &[Question]
+        ensures { result.now ≡ (world_seen self.now).outside.draws.noted }
+    {
+        self.outside.draws.noted()
     }
 
     /// The classes that run in it.

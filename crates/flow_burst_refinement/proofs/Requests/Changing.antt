@@ -205,7 +205,7 @@ effect_changes : (s : Supply) (i : ℕ) (goal : Goal) (eff : Effect) (c : Core) 
 effect_changes s i goal (Make k) c = as_change c (gives_new i goal k (empty_cell k) c) (new_stays i goal k (empty_cell k) c)
 effect_changes s i goal (Start class args) c = same refl (omega arith)
 effect_changes s i goal (Draw lo hi) c =
-    either c (between (hi -ℤ lo) 1 (2 ^ 32)) (gives i goal (IntValue (scaled lo (natural (hi -ℤ lo)) s.word)) c, Some Drew) (throws i bad_argument c)
+    either c (between (hi -ℤ lo) 1 (2 ^ 32)) (gives i goal (IntValue (scaled lo (natural (hi -ℤ lo)) s.word)) c, Some (Drew (natural (hi -ℤ lo)))) (throws i bad_argument c)
     (as_change c (gives i goal (IntValue (scaled lo (natural (hi -ℤ lo)) s.word)) c) (push_stays i (result_task i goal (IntValue (scaled lo (natural (hi -ℤ lo)) s.word))) c)) (thrown i bad_argument c)
 effect_changes s i goal (Delay ticks) c =
     either c (nat_le (s.now + natural ticks) (2 ^ 62)) (gives_open i goal c, Some (Timer (suc c.made) (s.now + natural ticks))) (throws i out_of_range c)

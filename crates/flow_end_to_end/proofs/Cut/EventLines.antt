@@ -67,7 +67,7 @@ module _ {A : Type 0} (e : Engine A) where
   sent (At time) w m q port text = tt
 
   served_lines : (r : Request) (w : Outside) → AllInner (outside.serve r w).0
-  served_lines Drew w = tt
+  served_lines (Drew n) w = tt
   served_lines (Timer cell time) w = tt
   served_lines (Packet q port text) w = (refl, sent _ _ _ q port text)
   served_lines (Disks cell call) w = tt

@@ -199,7 +199,7 @@ effected : (s : Supply) (i : ℕ) (g : Goal) (f : Effect) → AddsTo (effect s i
 effected s i g (Make k) c h = new_given i g k (empty_cell k) c h
 effected s i g (Start class args) c h = h
 effected s i g (Draw lo hi) c h =
-    if_asked (between (hi -ℤ lo) 1 (2 ^ 32)) (gives i g (IntValue (scaled lo (natural (hi -ℤ lo)) s.word)) c, Some Drew) (throws i bad_argument c)
+    if_asked (between (hi -ℤ lo) 1 (2 ^ 32)) (gives i g (IntValue (scaled lo (natural (hi -ℤ lo)) s.word)) c, Some (Drew (natural (hi -ℤ lo)))) (throws i bad_argument c)
     (goal_given i g (IntValue (scaled lo (natural (hi -ℤ lo)) s.word)) c h) h
 effected s i g (Delay ticks) c h =
     let time = s.now + natural ticks in

@@ -11,7 +11,7 @@ use Rattle.flow_meaning.specs.Cells.{PromiseSide}
 use Rattle.flow_meaning.specs.Requests.{Request, Drew, Timer, Packet, Disks}
 use Rattle.flow_meaning.specs.Process.{Proc}
 use Rattle.flow_meaning.specs.References.{one, in_requests}
-use Rattle.flow_meaning.specs.Outside.{What, Rings, Arrives, Answers, Outside, sent_by, fate_in}
+use Rattle.flow_meaning.specs.Outside.{What, Rings, Arrives, Answers, Outside, sent_by, drawn_by, fate_in}
 use Rattle.flow_meaning.specs.Outside as outside
 use Rattle.flow_meaning.specs.World.{is_of, Place, without_requests}
 use Rattle.flow_meaning.specs.Frame.{Frame}
@@ -81,11 +81,11 @@ sent_side Drawn w m q port text = record { file = refl; active = refl; script = 
 sent_side (At time) w m q port text = record { file = refl; active = refl; script = refl }
 
 pub asked_side : (q : Request) (w : Outside) → SameSide w (after_ask q w)
-asked_side Drew w = record { file = refl; active = refl; script = refl }
+asked_side (Drew n) w = record { file = refl; active = refl; script = refl }
 asked_side (Timer cell time) w = record { file = refl; active = refl; script = refl }
 asked_side (Packet q port text) w =
     let v = record w { sent = suc w.sent } in
-    let s = sent_side (fate_in v q) v v.sent q port text in record { file = s.file; active = s.active; script = s.script }
+    let s = sent_side (fate_in v q) (drawn_by (fate_in v q) v) v.sent q port text in record { file = s.file; active = s.active; script = s.script }
 asked_side (Disks cell call) w = record { file = refl; active = refl; script = refl }
 
 -- the other processes
@@ -95,9 +95,9 @@ sent_others Drawn w n q port text m = fewer_same m w.events.pending
 sent_others (At time) w n q port text m = placed_fewer m _ w.events.pending (λ types. tt) (λ k. refl)
 
 pub asked_others : (q : Request) (w : Outside) (m : ℕ) → (m ≡ w.active → ⊥) → Fewer m w.events.pending (after_ask q w).events.pending
-asked_others Drew w m other = fewer_same m w.events.pending
+asked_others (Drew n) w m other = fewer_same m w.events.pending
 asked_others (Timer cell time) w m other = placed_fewer m _ w.events.pending (λ types e. absurd (other e)) (λ k. other_sets m w.active k cell other)
-asked_others (Packet q port text) w m other = let v = record w { sent = suc w.sent } in sent_others (fate_in v q) v v.sent q port text m
+asked_others (Packet q port text) w m other = let v = record w { sent = suc w.sent } in sent_others (fate_in v q) (drawn_by (fate_in v q) v) v.sent q port text m
 asked_others (Disks cell call) w m other = placed_fewer m _ w.events.pending (λ types e. absurd (other e)) (λ k. other_sets m w.active k cell other)
 
 -- the process that asked
@@ -109,9 +109,9 @@ sent_brought : (types : CellTypes) (f : Fate) (w : Outside) (n q port : ℕ) (te
 sent_brought types f w n q port text m h = (sent_others f w n q port text m).brought types h
 
 pub asked_brought : (types : CellTypes) (q : Request) (w : Outside) (m : ℕ) → AskFits types (Some q) → AllBring m types w.events.pending → AllBring m types (after_ask q w).events.pending
-asked_brought types Drew w m a h = h
+asked_brought types (Drew n) w m a h = h
 asked_brought types (Timer cell time) w m a h = all_placed (λ (e : Pending What). Brings m types e.what) _ w.events.pending (λ e. a) h
-asked_brought types (Packet q port text) w m a h = let v = record w { sent = suc w.sent } in sent_brought types (fate_in v q) v v.sent q port text m h
+asked_brought types (Packet q port text) w m a h = let v = record w { sent = suc w.sent } in sent_brought types (fate_in v q) (drawn_by (fate_in v q) v) v.sent q port text m h
 asked_brought types (Disks cell call) w m a h = all_placed (λ (e : Pending What). Brings m types e.what) _ w.events.pending (λ e. a) h
 
 abbrev pub more_due : Request → ℕ → ℕ
@@ -126,11 +126,11 @@ one_more m n k cell x es h =
     let d : one PromiseSide k PromiseSide cell ≡ weight (nat_eq k cell) = refl in omega (arith, a, b, c, d)
 
 pub asked_due : (q : Request) (w : Outside) (m k : ℕ) → due m k (after_ask q w).events.pending ≤ due m k w.events.pending + more_due q k
-asked_due Drew w m k = omega arith
+asked_due (Drew n) w m k = omega arith
 asked_due (Timer cell time) w m k = one_more m w.active k cell _ w.events.pending refl
 asked_due (Packet q port text) w m k =
     let v = record w { sent = suc w.sent } in
-    let a = (sent_others (fate_in v q) v v.sent q port text m).due k in omega (arith, a)
+    let a = (sent_others (fate_in v q) (drawn_by (fate_in v q) v) v.sent q port text m).due k in omega (arith, a)
 asked_due (Disks cell call) w m k = one_more m w.active k cell _ w.events.pending refl
 
 -- events name processes of the world
@@ -142,7 +142,7 @@ sent_events count (At time) w n q port text l h = all_placed (EventNames count) 
 
 pub asked_events : (count : ℕ) (q : Request) (w : Outside) → w.active < count → Names count (Some q) → AllByRecursion (EventNames count) w.events.pending
     → AllByRecursion (EventNames count) (after_ask q w).events.pending
-asked_events count Drew w l n h = h
+asked_events count (Drew width) w l n h = h
 asked_events count (Timer cell time) w l n h = all_placed (EventNames count) _ w.events.pending l h
-asked_events count (Packet q port text) w l n h = let v = record w { sent = suc w.sent } in sent_events count (fate_in v q) v v.sent q port text n h
+asked_events count (Packet q port text) w l n h = let v = record w { sent = suc w.sent } in sent_events count (fate_in v q) (drawn_by (fate_in v q) v) v.sent q port text n h
 asked_events count (Disks cell call) w l n h = all_placed (EventNames count) _ w.events.pending l h

@@ -120,7 +120,7 @@ module _ (k : ℕ) (ys : Numbered Frame) (i : ℕ) where
   effect_refers s goal (Make kd) c h fresh = gives_new_refers goal kd (empty_cell kd) c h fresh
   effect_refers s goal (Start class args) c h fresh = tt
   effect_refers s goal (Draw lo hi) c h fresh =
-      by_if (between (hi -ℤ lo) 1 (2 ^ 32)) (gives i goal (IntValue (scaled lo (natural (hi -ℤ lo)) s.word)) c, Some Rattle.flow_meaning.specs.Requests.Drew) (throws i bad_argument c)
+      by_if (between (hi -ℤ lo) 1 (2 ^ 32)) (gives i goal (IntValue (scaled lo (natural (hi -ℤ lo)) s.word)) c, Some (Rattle.flow_meaning.specs.Requests.Drew (natural (hi -ℤ lo)))) (throws i bad_argument c)
       (gives_refers goal (IntValue (scaled lo (natural (hi -ℤ lo)) s.word)) c h) (push_fine (Throw i bad_argument) c h)
   effect_refers s goal (Delay ticks) c h fresh =
       let time = s.now + natural ticks in

@@ -7,7 +7,7 @@ use Rattle.flow_simnet.specs.declared.packet.Fate.TheVariants.{Cut, Drawn, At}
 use Rattle.flow_meaning.specs.Requests.{Request, Drew, Timer, Packet, Disks}
 use Rattle.flow_meaning.specs.Burst as machine
 use Rattle.flow_meaning.specs.Burst.{Live, Burst, rests, steps, advance, advanced}
-use Rattle.flow_meaning.specs.Outside.{Outside, host, serve, sent_by, fate_in}
+use Rattle.flow_meaning.specs.Outside.{Outside, host, serve, sent_by, drawn_by, fate_in}
 use Rattle.flow_meaning.specs.Process.{Engine, Proc}
 use Rattle.flow_meaning.specs.Step.{Stepped, step}
 use Rattle.flow_meaning.proofs.Shifts.{same_of}
@@ -34,11 +34,11 @@ sent_stays Drawn w m q port text = record { file = refl; time = refl; ran = refl
 sent_stays (At t) w m q port text = record { file = refl; time = refl; ran = refl; script = refl; active = refl }
 
 served_stays : (q : Request) (w : Outside) → StaysIn w (serve q w).1
-served_stays Drew w = record { file = refl; time = refl; ran = refl; script = refl; active = refl }
+served_stays (Drew n) w = record { file = refl; time = refl; ran = refl; script = refl; active = refl }
 served_stays (Timer k t) w = record { file = refl; time = refl; ran = refl; script = refl; active = refl }
 served_stays (Packet q port text) w =
     let v = record w { sent = suc w.sent } in
-    let s = sent_stays (fate_in v q) v v.sent q port text in
+    let s = sent_stays (fate_in v q) (drawn_by (fate_in v q) v) v.sent q port text in
     record { file = s.file; time = s.time; ran = s.ran; script = s.script; active = s.active }
 served_stays (Disks k call) w = record { file = refl; time = refl; ran = refl; script = refl; active = refl }
 

@@ -1,23 +1,23 @@
 -- A loss of power leaves of a process in memory what it leaves of the process that it shows, and of what is outside the same.
-use Rattle.std.proofs.Common.{◌≡◌, ℕ, List, [], ◌++◌, map, refl, sym, ap, ◌∙◌, subst}
+use Rattle.std.proofs.Common.{◌≡◌, ℕ, ◌+◌, List, [], ◌++◌, map, refl, sym, ap, ◌∙◌, subst}
 use Rattle.std.specs.Prelude.{slice_set, slice_index_or}
 use Rattle.flow_base.specs.declared.ids.ProcId.{ProcId}
 use Rattle.flow_class.specs.Classes.{RawTree}
 use Rattle.flow_draw.specs.Words.{word_at}
 use Rattle.flow_simdisk.specs.declared.write.Kept.{Kept}
 use Rattle.flow_simdisk.specs.Disk.{Disk, File, Losing, power_lost}
-use Rattle.flow_simdisk.specs.Stored.{losing}
 use Rattle.flow_meaning.specs.Deliver.{vanish}
 use Rattle.flow_meaning.specs.Frame.{Frame}
-use Rattle.flow_meaning.specs.Outside.{Outside}
+use Rattle.flow_meaning.specs.Outside.{Outside, word_in, with_asked}
 use Rattle.flow_meaning.specs.Process.{Proc}
 use Rattle.flow_meaning.specs.World.{disk_of, kept_line, with_disk}
 use Rattle.flow_steps.specs.declared.process.Process.{Process}
 use Rattle.flow_steps.specs.Doing.{vanished}
 use Rattle.flow_step_refinement.proofs.Effects.Brings.{vanishes}
-use Rattle.flow_world.specs.Changes.{Surroundings, DiskLoses}
+use Rattle.flow_world.specs.Changes.{Surroundings, DiskLoses, loss_on}
 use Rattle.flow_world.specs.Representing.{OutsideRepresents}
 use Rattle.flow_world.proofs.Events.{found, requests_are_gone}
+use Rattle.flow_world.proofs.Requests.{more_drawn, more_noted}
 use Rattle.flow_world_refinement.specs.Effects.Quiescence.{Quiescent}
 use Rattle.flow_world_refinement.specs.Effects.Vanishing as law
 
@@ -30,27 +30,34 @@ settled_gone r m p s =
 module _ (p : ProcId) (m lost : Surroundings) (o : Outside) (fates : List Kept) (s : OutsideRepresents m o) (d : DiskLoses p m lost fates) where
   -- what the definitions lose
   abbrev pub loss : Losing (List (List ℕ × File))
-  loss = power_lost (word_at o.file.seed o.file.words) o.drawn (disk_of o p.0).files
+  loss = power_lost (word_in o) (disk_of o p.0).files
 
   disk_is : disk_of o p.0 ≡ d.disk
   disk_is = ap (λ ds. slice_index_or ds p.0 (record { fails = 0; files = [] })) (sym s.disks) ∙ found m.disks p.0 d.disk (record { fails = 0; files = [] }) d.there
 
-  pub loss_is : loss ≡ losing d.kept lost.draws.used fates
-  loss_is =
-      ap (λ e. power_lost (word_at o.file.seed o.file.words) o.drawn e.files) disk_is
-      ∙ ap (λ n. power_lost (word_at o.file.seed o.file.words) n d.disk.files) (sym s.drawn)
-      ∙ ap (λ ws. power_lost (word_at o.file.seed ws) m.draws.used d.disk.files) (sym s.words)
-      ∙ ap (λ n. power_lost (word_at n m.draws.listed) m.draws.used d.disk.files) (sym s.seed) ∙ sym d.lost
+  -- and memory, by the same words
+  abbrev pub lost_here : Losing (List (List ℕ × File))
+  lost_here = loss_on d.disk m
 
-  -- the disk after it, and the words that it took
+  loss_is : loss ≡ lost_here
+  loss_is =
+      ap (λ e. power_lost (word_in o) e.files) disk_is
+      ∙ ap (λ n. power_lost (λ k. word_at o.file.seed o.file.words (n + k)) d.disk.files) (sym s.drawn)
+      ∙ ap (λ ws. power_lost (λ k. word_at o.file.seed ws (m.draws.used + k)) d.disk.files) (sym s.words)
+      ∙ ap (λ n. power_lost (λ k. word_at n m.draws.listed (m.draws.used + k)) d.disk.files) (sym s.seed)
+
+  pub fates_are : loss.fates ≡ fates
+  fates_are = ap (λ l. l.fates) loss_is ∙ sym d.lost
+
+  -- the disk after it, and what its words were asked for
   abbrev put_in : (disk : Disk) → Losing (List (List ℕ × File)) → Outside
-  put_in disk l = with_disk (record o { drawn = l.taken }) p.0 (record { fails = disk.fails; files = l.left })
+  put_in disk l = with_disk (with_asked o l.asked) p.0 (record { fails = disk.fails; files = l.left })
 
   disks_show : OutsideRepresents lost (put_in (disk_of o p.0) loss)
   disks_show =
       subst (λ l. OutsideRepresents lost (put_in (disk_of o p.0) l)) (sym loss_is)
-      (subst (λ e. OutsideRepresents lost (put_in e (losing d.kept lost.draws.used fates))) (sym disk_is)
-      (subst (λ n. OutsideRepresents n (put_in d.disk (losing d.kept lost.draws.used fates))) (sym d.left) (record {
+      (subst (λ e. OutsideRepresents lost (put_in e lost_here)) (sym disk_is)
+      (subst (λ n. OutsideRepresents n (put_in d.disk lost_here)) (sym d.left) (record {
         seed = s.seed;
         words = s.words;
         processes = s.processes;
@@ -59,23 +66,23 @@ module _ (p : ProcId) (m lost : Surroundings) (o : Outside) (fates : List Kept) 
         diskdelay = s.diskdelay;
         time = s.time;
         sent = s.sent;
-        drawn = refl;
+        drawn = more_drawn m o lost_here.asked s;
+        noted = more_noted m o lost_here.asked s;
         made = s.made;
         events = s.events;
         packets = s.packets;
         numbers = s.numbers;
         table = s.table;
         cuts = s.cuts;
-        disks = ap (λ ds. slice_set ds p.0 (record { fails = d.disk.fails; files = d.kept })) s.disks;
+        disks = ap (λ ds. slice_set ds p.0 (record { fails = d.disk.fails; files = lost_here.left })) s.disks;
       })))
 
 pub loss_follows : (r : RawTree) → law.LossFollows r
 loss_follows r turns p x o head at gone m lost left fates shows s d forgotten g =
-    let sum = loss_is p m lost o fates s d in
     let now = disks_show p m lost o fates s d in
     let settled = settled_gone r at.machine.process x.proc shows.rests in
     record {
-      lines = ap (λ l. head ++ map kept_line l.fates) sum;
+      lines = ap (λ fs. head ++ map kept_line fs) (fates_are p m lost o fates s d);
       shows = record {
         up = g.down;
         me = ap (λ (i : ProcId). i.0) g.me ∙ shows.me;

@@ -103,6 +103,7 @@ letter_taken m o n none s = record {
   time = s.time;
   sent = s.sent;
   drawn = s.drawn;
+  noted = s.noted;
   made = s.made;
   events =
       events_kept m.net.on_way (remove_entry (is_at (nat_cmp n)) m.net.on_way) m.timers.pending o.events.pending

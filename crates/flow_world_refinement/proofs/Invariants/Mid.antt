@@ -1,20 +1,22 @@
 -- What is to come within an event, once so many had run before it.
-use Rattle.std.proofs.Common.{◌≡◌, ℕ, suc, ◌+◌, ◌-◌, ◌^◌, ◌≤◌, Bool, true, false, List, [], ◌∷◌, Option, Some, None, refl, sym, ap, subst, arith, if◌then◌else◌}
-use Rattle.std.specs.Prelude.{nat_le, nat_lt, not, pos}
+use Rattle.std.proofs.Common.{◌≡◌, ℕ, suc, ◌+◌, ◌-◌, ◌^◌, ◌≤◌, Bool, true, false, List, [], ◌∷◌, ◌++◌, Option, Some, None, refl, sym, ap, subst, arith, if◌then◌else◌}
+use Rattle.std.specs.Prelude.{◌%◌, nat_le, nat_lt, not, pos}
 use Rattle.std.specs.List.{AllByRecursion}
 use Rattle.std.proofs.lemmas.Bool.Decides.{nat_tests}
 use Rattle.std.proofs.lemmas.Nat.{mod_below}
 use Rattle.flow_timers.specs.Pending.{Pending}
+use Rattle.flow_draw.specs.declared.question.Question.{Question}
+use Rattle.flow_draw.specs.declared.question.Question.TheVariants.{Among}
 use Rattle.flow_simnet.specs.declared.packet.Fate.{Fate}
 use Rattle.flow_simnet.specs.declared.packet.Fate.TheVariants.{Cut, Drawn, At}
-use Rattle.flow_simnet.specs.Links.{draw_in, fate_by}
+use Rattle.flow_simnet.specs.Links.{width, draw_in, fate_by, questions_of}
 use Rattle.flow_worldfile.specs.Directives.{IsSpan}
 use Rattle.flow_worldfile.specs.Worlds as file
 use Rattle.flow_worldfile.specs.declared.directive.Order.{Order}
 use Rattle.flow_worldfile.specs.declared.directive.Order.TheVariants as order
 use Rattle.flow_meaning.specs.Requests.{Request, Drew, Timer, Packet, Disks}
 use Rattle.flow_meaning.specs.Burst.{Live, Burst, rests, steps, advance, advanced}
-use Rattle.flow_meaning.specs.Outside.{What, Boots, Rings, Arrives, Answers, Outside, host, serve, sent_by, fate_in, is_cut, word_in, with_pending}
+use Rattle.flow_meaning.specs.Outside.{What, Boots, Rings, Arrives, Answers, Outside, host, serve, sent_by, drawn_by, fate_in, is_cut, word_in, with_asked, with_pending}
 use Rattle.flow_meaning.specs.Process.{Proc, Engine}
 use Rattle.flow_meaning.specs.Step.{Stepped, step}
 use Rattle.flow_meaning.specs.World.{Place, World, Begun, Next, Nothing, Script, Event, sooner, soonest, first_of, next_of, begun_by, ordered, happened, arrived, listener, ready, counted, with_left, process_of, process_in, is_of}
@@ -117,13 +119,17 @@ more slack n o t x early h = record {
   events = all_placed (IsEarly slack (suc n)) (record { time = t; number = suc o.events.made; what = x }) o.events.pending early h.events;
 }
 
-drawn : (slack n : ℕ) (o : Outside) (sent taken : ℕ) → Mid slack n o → Mid slack n (record o { sent = sent; drawn = taken })
-drawn slack n o sent taken h = record { file = h.file; script = h.script; now = h.now; ran = h.ran; events = h.events }
+-- words are drawn, and packets numbered
+drawing : (slack n : ℕ) (o : Outside) (sent : ℕ) (asked : List Question) → Mid slack n o → Mid slack n (record o { sent = sent; asked = asked })
+drawing slack n o sent asked h = record { file = h.file; script = h.script; now = h.now; ran = h.ran; events = h.events }
+
+asking : (slack n : ℕ) (o : Outside) (qs : List Question) → Mid slack n o → Mid slack n (with_asked o qs)
+asking slack n o qs h = drawing slack n o o.sent (o.asked ++ qs) h
 
 sent_mid : (slack n : ℕ) (f : Fate) (o : Outside) (m q port : ℕ) (text : List ℕ) → ((t : ℕ) → f ≡ At t → t ≤ latest slack (suc n)) → Mid slack n o → Mid slack n (sent_by f o m q port text).1
 sent_mid slack n Cut o m q port text early h = h
-sent_mid slack n Drawn o m q port text early h = drawn slack n o o.sent (o.drawn + 1) h
-sent_mid slack n (At t) o m q port text early h = more slack n (record o { drawn = o.drawn + 2 }) t (Arrives m o.active q port text) (early t refl) (drawn slack n o o.sent (o.drawn + 2) h)
+sent_mid slack n Drawn o m q port text early h = h
+sent_mid slack n (At t) o m q port text early h = more slack n o t (Arrives m o.active q port text) (early t refl) h
 
 fate_early : (slack n : ℕ) (o : Outside) (q : ℕ) → Mid slack n o → (t : ℕ) → fate_in o q ≡ At t → t ≤ latest slack (suc n)
 fate_early slack n o q h t e = by_cut (is_cut o.cuts o.active q) e
@@ -139,20 +145,21 @@ fate_early slack n o q h t e = by_cut (is_cut o.cuts o.active q) e
 
     by_cut : (b : Bool) → fate_by b o.file.loss o.file.latency o.time (word_in o) ≡ At t → t ≤ latest slack (suc n)
     by_cut true e = absurd (cc)
-    by_cut false e = by_loss (nat_lt (draw_in (0, 1000) (word_in o 0)) o.file.loss) e
+    by_cut false e = by_loss (nat_lt (word_in o 0 % 1000) o.file.loss) e
 
 -- the world serves a request
 asked_mid : (slack n : ℕ) (q : Request) (o : Outside) → IsTimely (Some q) → Mid slack n o → Mid slack n (serve q o).1
-asked_mid slack n Drew o early h = drawn slack n o o.sent (o.drawn + 1) h
+asked_mid slack n (Drew w) o early h = asking slack n o (Among w ∷ []) h
 asked_mid slack n (Timer k t) o early h = more slack n o t (Rings o.active k) (timer_early slack (suc n) t early) h
 asked_mid slack n (Packet q port text) o early h =
     let v : Outside = record o { sent = suc o.sent } in
-    let k = drawn slack n o (suc o.sent) o.drawn h in
-    sent_mid slack n (fate_in v q) v v.sent q port text (fate_early slack n v q k) k
+    let k = drawing slack n o (suc o.sent) o.asked h in
+    let f = fate_in v q in
+    sent_mid slack n f (drawn_by f v) v.sent q port text (fate_early slack n v q k) (asking slack n v (questions_of v.file.loss v.file.latency f) k)
 asked_mid slack n (Disks k call) o early h =
-    more slack n (record o { drawn = o.drawn + 1 }) (o.time + draw_in o.file.diskdelay (word_in o 0)) (Answers o.active k call)
+    more slack n (with_asked o (Among (width o.file.diskdelay) ∷ [])) (o.time + draw_in o.file.diskdelay (word_in o 0)) (Answers o.active k call)
     (later slack n o.time (draw_in o.file.diskdelay (word_in o 0)) h.now (in_span o.file.diskdelay.0 o.file.diskdelay.1 (word_in o 0) h.file.diskdelay))
-    (drawn slack n o o.sent (o.drawn + 1) h)
+    (asking slack n o (Among (width o.file.diskdelay) ∷ []) h)
 
 some : {Y : Type 0} {x y : Y} → Some x ≡ Some y → x ≡ y
 some q = cc

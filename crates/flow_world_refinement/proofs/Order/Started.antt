@@ -1,11 +1,12 @@
 -- What stands before the first event shows.
-use Rattle.std.proofs.Common.{◌≡◌, ℕ, zero, suc, ◌+◌, ◌<◌, ◌≤◌, Bool, true, false, List, [], ◌∷◌, length, map, replicate, get_or, nat_eq, refl, sym, subst, arith, if◌then◌else◌}
+use Rattle.std.proofs.Common.{◌≡◌, ℕ, zero, suc, ◌+◌, ◌<◌, ◌≤◌, Bool, true, false, List, [], ◌∷◌, length, map, take, replicate, get_or, nat_eq, refl, sym, ap, ◌∙◌, subst, arith, if◌then◌else◌}
 use Rattle.std.specs.List.{range_with_len}
 use Rattle.std.proofs.lemmas.Bool.Decides.{nat_tests}
 use Rattle.std.proofs.lemmas.List.{length-replicate}
 use Rattle.std.specs.declared.alloc.Global.{Global}
 use Rattle.flow_worldfile.specs.declared.world.World0.{World0}
 use Rattle.flow_worldfile.specs.Worlds.{seen}
+use Rattle.flow_draw.specs.declared.question.Question.{Question}
 use Rattle.flow_timers.specs.Pending.{Pending}
 use Rattle.flow_simnet.specs.Links as table
 use Rattle.flow_meaning.specs.Frame.{Frame}
@@ -84,8 +85,12 @@ none_cut zero i = refl
 none_cut (suc n) zero = refl
 none_cut (suc n) (suc i) = none_cut n i
 
-outside_shows : (file : World0) → OutsideRepresents (start.outside_at_start file) (outside_at_start (seen file))
-outside_shows file = record {
+nothing_noted : (room : ℕ) (qs : List Question) → qs ≡ [] → qs ≡ take room qs
+nothing_noted zero qs none = none
+nothing_noted (suc n) qs none = none ∙ sym (ap (take (suc n)) none)
+
+outside_shows : (room : ℕ) (file : World0) → OutsideRepresents (start.outside_at_start room file) (outside_at_start (seen file))
+outside_shows room file = record {
   seed = refl;
   words = refl;
   processes = refl;
@@ -95,6 +100,7 @@ outside_shows file = record {
   time = refl;
   sent = refl;
   drawn = refl;
+  noted = nothing_noted room [] refl;
   made = refl;
   events = events_show 0 file.processes;
   packets = λ m. (omega (arith, none_coming m 0 file.processes), λ _. none_coming m 0 file.processes);
@@ -107,7 +113,7 @@ outside_shows file = record {
 pub start_shown : (Rests : Process → Proc Frame → Type 0) → StartShown Rests
 start_shown Rests classes file w fresh s = record {
   places = places_show Rests fresh file.processes 0 file.processes w.places s.places s.count;
-  outside = subst (λ m. OutsideRepresents m (outside_at_start (seen file))) (sym s.outside) (outside_shows file);
+  outside = subst (λ m. OutsideRepresents m (outside_at_start (seen file))) (sym s.outside) (outside_shows w.outside.draws.room file);
   script = sorted_shows file.script.items w.script s.script;
   ran = s.ran;
   bound = s.bound;

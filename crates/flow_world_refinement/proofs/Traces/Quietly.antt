@@ -54,6 +54,7 @@ disk_put m o p d e s same = record {
   time = s.time;
   sent = s.sent;
   drawn = s.drawn;
+  noted = s.noted;
   made = s.made;
   events = s.events;
   packets = s.packets;

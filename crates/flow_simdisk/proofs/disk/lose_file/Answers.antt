@@ -1,8 +1,17 @@
 use Rattle.std.proofs.Common.{◌≡◌, ◌≢◌, ◌≤◌, ◌∙◌, [], length, ap, ap₂, sym, subst, rules, arith}
-use Rattle.flow_simdisk.specs.Disk.{lose_next, with_file}
-use Rattle.flow_simdisk.specs.Stored.{HasFiles, IsThere, files_of, losing}
-use Rattle.flow_simdisk.proofs.Naming.{HasFile, by_name, insert_named, with_bytes_some, all_inserted, some_length}
+use Rattle.flow_simdisk.specs.Disk.{with_bytes, with_file}
+use Rattle.flow_simdisk.specs.Stored.{HasFiles, IsThere, files_of}
+use Rattle.flow_simdisk.proofs.Naming.{HasFile, by_name, insert_named, with_bytes_some, none_left, all_inserted, some_length}
 use Rattle.flow_simdisk.proofs.disk.lose_file.Goals as goal
+
+pub returns-else-not-is_empty-clause-lost : goal.returns-else-not-is_empty-clause-lost
+returns-else-not-is_empty-clause-lost c =
+    let fs = files_of c.args.files.now.entries in
+    let x = c.args.name.now in
+    let none = none_left c.in_ok-left.left c.is_empty.result c.is_empty.ensures c.if-not-is_empty.false in
+    λ start qs was.
+    let (bytes, fates, draws) = c.in_ok-left.ensures.lost start qs was in
+    (sym (ap (λ bs. with_bytes fs x bs) (sym bytes ∙ none)), fates, draws)
 
 pub returns-in_ok-insert-clause-lost : goal.returns-in_ok-insert-clause-lost
 returns-in_ok-insert-clause-lost c =
@@ -16,7 +25,9 @@ returns-in_ok-insert-clause-lost c =
     ∙ insert_named _ key c.in_ok-of.field-0
     ∙ ap₂ (λ y f. with_file fs y f) name c.in_ok-of.ensures
     ∙ sym (with_bytes_some fs x left some) in
-    ap (λ gs. losing gs c.lose.new.draws.used c.lose.new.fates.items) is ∙ ap (λ l. lose_next fs x l) c.in_ok-left.ensures.lost
+    λ start qs was.
+    let (bytes, fates, draws) = c.in_ok-left.ensures.lost start qs was in
+    (is ∙ ap (λ bs. with_bytes fs x bs) bytes, fates, draws)
 
 pub returns-in_ok-insert-clause-there : goal.returns-in_ok-insert-clause-there
 returns-in_ok-insert-clause-there c =

@@ -1,4 +1,4 @@
-use Rattle.std.proofs.Common.{◌≡◌, ◌≤◌, ◌∙◌, length, ap, ap₂, sym, subst}
+use Rattle.std.proofs.Common.{◌≤◌, ◌∙◌, length, ap, ap₂, sym, subst}
 use Rattle.flow_simdisk.specs.Disk.{with_file}
 use Rattle.flow_simdisk.specs.Stored.{HasFiles, IsThere, file_in, files_of}
 use Rattle.flow_simdisk.proofs.Naming.{HasFile, by_name, insert_named, all_inserted}

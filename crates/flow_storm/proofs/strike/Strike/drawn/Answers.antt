@@ -16,3 +16,12 @@ returns-clause-strike c =
     (word_later d _ _ 2 at2 c.next-2.ensures.word) (word_later d _ _ 3 at3 c.next-3.ensures.word)
     (word_later d _ _ 4 at4 c.next-4.ensures.word) c.from.ensures c.from-2.ensures c.from-3.ensures c.fault_of.ensures
     c.other_process-other.ensures
+
+pub returns-clause-taken : goal.returns-clause-taken
+returns-clause-taken c =
+    let d = c.args.draws.now in
+    let at1 = more_taken d _ _ 0 (none_taken d) c.next-kind.ensures.taken in
+    let at2 = more_taken d _ _ 1 at1 c.next.ensures.taken in
+    let at3 = more_taken d _ _ 2 at2 c.next-2.ensures.taken in
+    let at4 = more_taken d _ _ 3 at3 c.next-3.ensures.taken in
+    more_taken d _ _ 4 at4 c.next-4.ensures.taken
