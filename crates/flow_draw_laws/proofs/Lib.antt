@@ -1,0 +1,10 @@
+pub mod Parted
+pub mod FatesParted
+pub mod Steps
+pub mod Twins
+pub mod Growing
+pub mod TwinEvents
+pub mod Following
+pub mod Answered
+pub mod Listed
+pub mod Pinning
