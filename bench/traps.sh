@@ -59,6 +59,9 @@ def starts(n, wait):
     return f'ACTOR Future<Void> late(int n) {{\nif (n == 0) {{\nwait(Never());\n}}\nstate Future<Void> d = {wait};\nstate Future<Void> rest = late(n - 1);\nwait(d);\nreturn Void();\n}}\n'
 
 
+HELD = 'ACTOR Future<Void> held(int n) {\nif (n == 0) {\nwait(Never());\n}\nstate FutureStream<Packet> in = listen(n);\nstate Future<Void> rest = held(n - 1);\nwait(Never());\nreturn Void();\n}\n'
+
+
 def calling(n):
     """So many functions, of which one calls the last of the others."""
     others = ''.join(f'int f{k}(int n) {{\nreturn n + 1;\n}}\n' for k in range(n))
@@ -103,6 +106,9 @@ FAMILIES = {
     'files': family(1000, lambda n: main(loop(n, 'state string name = to_string(i);\nwait(writeFile(name, 0, "ab"));\nwait(syncFile(name));'))),
     'reads': family(100, lambda n: main('wait(writeFile("f", 60000, "ab"));\n' + loop(n, 'string s = wait(readFile("f", 0, 1000));'))),
     'packets': family(100, lambda n: main('state FutureStream<Packet> in = listen(7);\n' + loop(n, 'sendTo(0, 7, "abc");\nPacket k = waitNext(in);'))),
+    'ports': family(1000, lambda n: main('state Future<Void> h = held(%d);\nwait(delay(1));' % n, HELD)),
+    'bytes of 100 printed texts': family(1000, lambda n: main(loop(100, f'trace({text(n)});'))),
+    'bytes of 100 printed texts, with escapes': family(1000, lambda n: main(loop(100, 'trace("' + 'abcdefgh\\\\' * (n // 9) + '");'))),
     'processes': family(6, lambda n: main(loop(100, 'wait(delay(1));')), lambda n: world('', f'processes {n}\n')),
     'fields, 1,000 elements': family(
         12, lambda n: main('state PromiseStream<Big> q;\nstate FutureStream<Big> s = q.getFuture();\n' + loop(1000, 'q.send(Big(' + ', '.join(['i'] * n) + '));\nBig b = waitNext(s);'), fields(n)),
